@@ -1,0 +1,121 @@
+-- Document 01, "Escaping" (RFC 3862 section 2.3), as the source has it. Stricter than the RFC: \' is refused. Laxer: \u takes a plus
+-- sign and three digits. Assumes nothing.
+use Prim.Native.Nat.{ℕ, zero, suc, _+_, _-_, _*_, _/_, _%_}
+use mathlib.Core.Bool.{Bool, true, false, _&&_, _||_}
+use mathlib.Core.List.{List, [], _∷_, _++_}
+use mathlib.Core.Option.{Option, none, some}
+use lib.Dec.{leb, ltb, eqb}
+use Rattle.format.specs.Bytes.{Bytes, if_then_else_, texts, backslash, quote, plus}
+use Rattle.format.specs.Characters.{chars, isControl, codePoint, isScalar, encoding}
+
+-- a lower-case hexadecimal digit: 0 to 9, a to f
+unfoldable pub digit : ℕ → ℕ
+digit n = if ltb n 10 then 48 + n else 87 + n
+
+-- `\u` and four lower-case hexadecimal digits
+unfoldable pub unicodeEscape : ℕ → Bytes
+unicodeEscape n = backslash ∷ 117 ∷ digit (n / 4096 % 16) ∷ digit (n / 256 % 16) ∷ digit (n / 16 % 16) ∷ digit (n % 16) ∷ []
+
+-- what follows the backslash for a character that has a short form: \\ \" \b \t \n \r
+unfoldable pub shortForm : ℕ → Option ℕ
+shortForm n =
+    if eqb n 92 then some 92
+    else if eqb n 34 then some 34
+    else if eqb n 8 then some 98
+    else if eqb n 9 then some 116
+    else if eqb n 10 then some 110
+    else if eqb n 13 then some 114 else none
+
+-- a character with no short form: any other Cc as `\u`, all others as they are
+abbrev pub longForm : Bytes → Bytes
+longForm g = if isControl g then unicodeEscape (codePoint g) else g
+
+abbrev pub shortOr : Option ℕ → Bytes → Bytes
+shortOr none g = longForm g
+shortOr (some c) g = backslash ∷ c ∷ []
+
+-- one character as it is written
+unfoldable pub escapeChar : Bytes → Bytes
+escapeChar [] = []
+escapeChar (b ∷ []) = shortOr (shortForm b) (b ∷ [])
+escapeChar (b ∷ c ∷ t) = longForm (b ∷ c ∷ t)
+
+-- Written
+unfoldable pub escape : Bytes → Bytes
+escape v = texts escapeChar (chars v)
+
+-- the value of a hexadecimal digit in either case
+unfoldable pub digitValue : ℕ → Option ℕ
+digitValue c =
+    if leb 48 c && leb c 57 then some (c - 48)
+    else if leb 97 c && leb c 102 then some (c - 87)
+    else if leb 65 c && leb c 70 then some (c - 55) else none
+
+-- one more digit behind a number read so far
+abbrev pub shifted : Option ℕ → Option ℕ → Option ℕ
+shifted none d = none
+shifted (some n) none = none
+shifted (some n) (some d) = some (n * 16 + d)
+
+-- the number after `\u`: four digits, or a plus and three digits
+unfoldable pub fourDigits : ℕ → ℕ → ℕ → ℕ → Option ℕ
+fourDigits a b c d =
+    shifted (shifted (shifted (if eqb a plus then some 0 else digitValue a) (digitValue b)) (digitValue c)) (digitValue d)
+
+-- What an escape stands for, and how many bytes behind the backslash it takes.
+pub record Escape : Type 0 where
+  pub stands : Bytes
+  pub takes : ℕ
+
+-- a surrogate, or no number, is no escape
+unfoldable pub scalarEscape : Option ℕ → Option Escape
+scalarEscape none = none
+scalarEscape (some n) = if isScalar n then some (record { stands = encoding n; takes = 5 }) else none
+
+unfoldable pub longEscape : Bytes → Option Escape
+longEscape [] = none
+longEscape (a ∷ []) = none
+longEscape (a ∷ b ∷ []) = none
+longEscape (a ∷ b ∷ c ∷ []) = none
+longEscape (a ∷ b ∷ c ∷ d ∷ t) = scalarEscape (fourDigits a b c d)
+
+abbrev pub single : ℕ → Option Escape
+single n = some (record { stands = n ∷ []; takes = 1 })
+
+unfoldable pub shortEscape : ℕ → Option Escape
+shortEscape c =
+    if eqb c 92 then single 92
+    else if eqb c 34 then single 34
+    else if eqb c 98 then single 8
+    else if eqb c 116 then single 9
+    else if eqb c 110 then single 10
+    else if eqb c 114 then single 13 else none
+
+-- the escape that the bytes behind a backslash begin with
+unfoldable pub escapeAt : Bytes → Option Escape
+escapeAt [] = none
+escapeAt (c ∷ s) = if eqb c 117 then longEscape s else shortEscape c
+
+abbrev pub takesOf : Option Escape → ℕ
+takesOf none = 0
+takesOf (some e) = e .takes
+
+-- a text in front of what the rest reads as
+abbrev pub behind : Bytes → Option Bytes → Option Bytes
+behind s none = none
+behind s (some t) = some (s ++ t)
+
+abbrev pub escaped : Option Escape → Option Bytes → Option Bytes
+escaped none t = none
+escaped (some e) t = behind (e .stands) t
+
+-- Read; none where something else stands after a backslash. (k bytes of an escape just read are still to be passed over:
+-- a device of the recursion.)
+unfoldable pub unescapeFrom : ℕ → Bytes → Option Bytes
+unescapeFrom k [] = some []
+unescapeFrom zero (b ∷ s) =
+    if eqb b backslash then escaped (escapeAt s) (unescapeFrom (takesOf (escapeAt s)) s) else behind (b ∷ []) (unescapeFrom zero s)
+unescapeFrom (suc k) (b ∷ s) = unescapeFrom k s
+
+abbrev pub unescape : Bytes → Option Bytes
+unescape s = unescapeFrom 0 s

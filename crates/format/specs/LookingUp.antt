@@ -1,0 +1,141 @@
+-- Document 01, "Looking up": what is held is a message, or nothing. Absent is a case of its own (`none`). Assumes nothing.
+use Prim.Native.Nat.{ℕ, zero, suc}
+use mathlib.Core.Bool.{Bool, true, false, not}
+use mathlib.Core.List.{List, [], _∷_, _++_}
+use mathlib.Core.Option.{Option, none, some}
+use lib.Dec.{leb}
+use lib.ListN.{length, take, drop}
+use Rattle.format.specs.Bytes.{Bytes, if_then_else_, total, has, upTo, past, occurs, less-sign, greater-sign, CRLFCRLF}
+use Rattle.format.specs.Characters.{isUtf8}
+use Rattle.format.specs.Limits.{maxText}
+use Rattle.format.specs.Refusals.{textTooLong, tooFewSections, Out, accepted, refused, Check, pass, atMost, _>>_, _>>=_}
+use Rattle.format.specs.Validators.{utf8}
+use Rattle.format.specs.Message.{Entry, Alone, Header, nameOf, Message, only}
+use Rattle.format.specs.Calls.{space, bodyLength}
+use Rattle.format.specs.Reading.{sections, bodyOf}
+
+module _ {A : Type 0} where
+  -- the n-th element, n counting from 0
+  unfoldable pub nth : ℕ → List A → Option A
+  nth n [] = none
+  nth zero (x ∷ xs) = some x
+  nth (suc n) (x ∷ xs) = nth n xs
+
+  abbrev pub mapped : {B : Type 0} → (A → B) → Option A → Option B
+  mapped f none = none
+  mapped f (some a) = some (f a)
+
+  -- what is read of what is held; absent where nothing is
+  abbrev pub ofHeld : {B : Type 0} → Option A → (A → Option B) → Option B
+  ofHeld none f = none
+  ofHeld (some a) f = f a
+
+  abbrev pub counted : Option A → (A → ℕ) → ℕ
+  counted none f = 0
+  counted (some a) f = f a
+
+-- the n-th header of a name; absent for a name that is not UTF-8
+unfoldable pub nthHeader : Option Message → Bytes → ℕ → Option Header
+nthHeader held name n = ofHeld held (λ m. if isUtf8 name then nth n (only nameOf name (m .headers)) else none)
+
+-- `get_header_values`: the n-th value of a name
+unfoldable pub getHeaderValue : Option Message → Bytes → ℕ → Option Bytes
+getHeaderValue held name n = mapped (λ h. h .value) (nthHeader held name n)
+
+-- `get_header`: the first value of a name
+unfoldable pub getHeader : Option Message → Bytes → Option Bytes
+getHeader held name = getHeaderValue held name 0
+
+-- the n-th parameter, in map order, of the k-th value of a name
+unfoldable pub getParam : Option Message → Bytes → ℕ → ℕ → Option Entry
+getParam held name k n = ofHeld (nthHeader held name k) (λ h. nth n (h .params))
+
+-- the content type, the body, the n-th content header in map order
+unfoldable pub getType : Option Message → Option Bytes
+getType held = mapped (λ m. m .type) held
+
+unfoldable pub getBody : Option Message → Option Bytes
+getBody held = mapped (λ m. m .body) held
+
+unfoldable pub getContent : Option Message → ℕ → Option Entry
+getContent held n = ofHeld held (λ m. nth n (m .contents))
+
+-- of a header alone: its value and its n-th parameter in map order
+unfoldable pub aloneValue : Option Alone → Option Bytes
+aloneValue held = mapped (λ h. h .value) held
+
+unfoldable pub aloneParam : Option Alone → ℕ → Option Entry
+aloneParam held n = ofHeld held (λ h. nth n (h .params))
+
+-- how many headers, parameters of all headers, and content headers are held
+unfoldable pub countHeaders : Option Message → ℕ
+countHeaders held = counted held (λ m. length (m .headers))
+
+unfoldable pub countParams : Option Message → ℕ
+countParams held = counted held (λ m. total (λ h. length (h .params)) (m .headers))
+
+unfoldable pub countContents : Option Message → ℕ
+countContents held = counted held (λ m. length (m .contents))
+
+-- `body_as_str`: yes or no (no where nothing is held)
+unfoldable pub bodyAsStr : Option Message → Bool
+bodyAsStr none = false
+bodyAsStr (some m) = isUtf8 (m .body)
+
+-- the part of a value up to the next `>`, or none
+unfoldable pub closed : Bytes → Option Bytes
+closed s = if has greater-sign s then some (upTo greater-sign s) else none
+
+-- Address: the part of a value between its first `<` and the next `>`, or none.
+unfoldable pub address : Bytes → Option Bytes
+address v = if has less-sign v then closed (past less-sign v) else none
+
+-- Body without a store. The sections from the fourth, joined: 2 where there are none.
+unfoldable pub fourth : List Bytes → Out Bytes
+fourth [] = refused tooFewSections
+fourth (a ∷ []) = refused tooFewSections
+fourth (a ∷ b ∷ []) = refused tooFewSections
+fourth (a ∷ b ∷ c ∷ []) = refused tooFewSections
+fourth (a ∷ b ∷ c ∷ d ∷ rest) = accepted (bodyOf (d ∷ rest))
+
+-- the body of a text: 1, 24, 2, 23
+unfoldable pub bodyOfText : Bytes → Out Bytes
+bodyOfText t = do
+  atMost maxText textTooLong (length t)
+  utf8 t
+  b ← fourth (sections t)
+  bodyLength b
+  accepted b
+
+-- the body is part of the text under CRLFCRLF
+unfoldable pub inText : Bytes → Bool
+inText t = occurs CRLFCRLF t
+
+-- 26 under LFLF only
+unfoldable pub bufferFor : Bool → ℕ → ℕ → Check
+bufferFor true buffer n = pass
+bufferFor false buffer n = space buffer n
+
+-- The first call refuses by 1, 24, 2, 23, 26, else gives the body, whose length it answers.
+unfoldable pub findBody : Bytes → ℕ → Out Bytes
+findBody t buffer = do
+  b ← bodyOfText t
+  bufferFor (inText t) buffer (length b)
+  accepted b
+
+abbrev pub overStart : Out Bytes → Bytes → Bytes
+overStart (accepted b) buffer = b ++ drop (length b) buffer
+overStart (refused r) buffer = buffer
+
+-- the buffer after the first call: under LFLF the body at its start, and no other byte changes
+unfoldable pub bufferAfter : Bytes → Bytes → Bytes
+bufferAfter t buffer = if inText t then buffer else overStart (findBody t (length buffer)) buffer
+
+abbrev pub partOf : Out Bytes → Bool → Bytes → ℕ → Bytes
+partOf (refused r) inside buffer n = []
+partOf (accepted b) inside buffer n = if inside then b else if leb n (length buffer) then take n buffer else []
+
+-- The second call: part of the text under CRLFCRLF, the buffer's first n bytes under LFLF; empty if 1, 24, 2 or 23 applies,
+-- or under LFLF n exceeds the buffer.
+unfoldable pub bodyPart : Bytes → Bytes → ℕ → Bytes
+bodyPart t buffer n = partOf (bodyOfText t) (inText t) buffer n

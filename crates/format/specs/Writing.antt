@@ -1,0 +1,47 @@
+-- Document 01, "Writing": the text T of a message. Assumes nothing.
+use Prim.Native.Nat.{ℕ}
+use mathlib.Core.List.{List, [], _∷_, _++_}
+use mathlib.Core.Option.{Option, none, some}
+use lib.ListN.{length}
+use Rattle.format.specs.Bytes.{Bytes, ascii, texts, CRLF}
+use Rattle.format.specs.Characters.{replaced}
+use Rattle.format.specs.Escaping.{escape}
+use Rattle.format.specs.Refusals.{Out, accepted, refused, nothingHeld, _>>_}
+use Rattle.format.specs.Message.{Entry, Header, Message}
+use Rattle.format.specs.Calls.{space}
+
+-- `;` name `=` value
+unfoldable pub paramText : Entry → Bytes
+paramText e = ascii ";" ++ (e .name ++ (ascii "=" ++ e .value))
+
+-- a header's line: name, `:`, the parameters, a space, the escaped value
+unfoldable pub headerLine : Header → Bytes
+headerLine h = h .name ++ (ascii ":" ++ (texts paramText (h .params) ++ (ascii " " ++ escape (h .value))))
+
+-- a content header's line: name, `: `, value
+unfoldable pub contentLine : Entry → Bytes
+contentLine e = e .name ++ (ascii ": " ++ e .value)
+
+unfoldable pub typeLine : Bytes → Bytes
+typeLine t = ascii "Content-type: " ++ t
+
+abbrev pub firstLine : Bytes
+firstLine = ascii "Content-type: Message/CPIM"
+
+abbrev pub ended : Bytes → Bytes
+ended l = l ++ CRLF
+
+-- T
+unfoldable pub write : Message → Bytes
+write m =
+    ended firstLine
+    ++ (CRLF
+    ++ (texts (λ h. ended (headerLine h)) (m .headers)
+    ++ (CRLF ++ (ended (typeLine (m .type)) ++ (texts (λ e. ended (contentLine e)) (m .contents) ++ (CRLF ++ replaced (m .body)))))))
+
+-- `to_string`: only 25 carrying 0, then 26, can refuse
+unfoldable pub toText : Option Message → ℕ → Out Bytes
+toText none output = refused nothingHeld
+toText (some m) output = do
+  space output (length (write m))
+  accepted (write m)

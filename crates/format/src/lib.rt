@@ -1,0 +1,20 @@
+// The records that stand for a message and a header in lent stores: numbers only. What they mean is in specs/Layout.antt.
+// This crate has no function of its own; its definitions are document 01.
+
+// A message: length of its type; its headers and the bytes that they take in the head store; its content headers and
+// theirs; length of its body.
+pub struct CpimMessage {
+    pub typelen: usize,
+    pub headers: usize,
+    pub headerlen: usize,
+    pub contents: usize,
+    pub contentlen: usize,
+    pub bodylen: usize,
+}
+
+// A header alone: length of its value; its parameters and the bytes that they take in the header store.
+pub struct CpimHeader {
+    pub valuelen: usize,
+    pub params: usize,
+    pub paramlen: usize,
+}
