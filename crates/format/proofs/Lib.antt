@@ -1,1 +1,9 @@
 pub mod Lists
+pub mod Table
+pub mod Chars
+pub mod Replaced
+pub mod WhiteSpace
+pub mod Split
+pub mod Lines
+pub mod Order
+pub mod SplitUtf8

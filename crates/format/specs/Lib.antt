@@ -11,3 +11,5 @@ pub mod Reading
 pub mod LookingUp
 pub mod Showing
 pub mod Layout
+pub mod Changing
+pub mod Demand3
