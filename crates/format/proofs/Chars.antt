@@ -1,8 +1,8 @@
 -- Document 01, "Characters": any bytes are the join of their characters and subparts, a well-formed character is cut off whole,
 -- and a text is cut at every ASCII byte. The facts of Table 3-7 that carry this are in Table.antt. Assumes nothing.
-use Prim.Native.Nat.{ℕ, zero, suc, _+_, _≤_, _<_}
+use Prim.Native.Nat.{ℕ, zero, suc, _≤_, _<_}
 use mathlib.Core.Path.{_≡_, refl, sym, ap, _∙_}
-use mathlib.Core.Bool.{Bool, true, false, _&&_, false≢true}
+use mathlib.Core.Bool.{true, _&&_, false≢true}
 use mathlib.Core.List.{List, [], _∷_, _++_, append-assoc, append-nil}
 use mathlib.Core.Option.{Option, none, some}
 use native.Mathlib.Omega.{arith}
@@ -11,9 +11,9 @@ use lib.ListN.{length, take, drop, take-append-drop, length-drop}
 use lib.Seq.{take-append-seam, drop-append-seam, take-append-le, drop-append-le}
 use borrow.Author.Tests.{le-leb, ltb-true}
 use Rattle.format.specs.Bytes.{Bytes, all, texts}
-use Rattle.format.specs.Characters.{Range, trailIn, trailOf, fits, fitsSome, wellFormed, matched, matchedSome, trailing, charsFrom, chars, isUtf8, flat}
-use Rattle.format.proofs.Lists.{and-left, and-right, and-intro, all-append, all-head, all-tail}
-use Rattle.format.proofs.Table.{trail-upper, lead-upper, lead-single, trail-ascii, fits-upper, matched-le, matched-fits, matched-cut, upper}
+use Rattle.format.specs.Characters.{Range, trailOf, fits, fitsSome, wellFormed, matchedSome, trailing, charsFrom, chars, isUtf8, flat}
+use Rattle.format.proofs.Lists.{and-left, and-right, and-intro, all-append, all-head, all-tail, all-cons}
+use Rattle.format.proofs.Table.{trail-upper, lead-upper, lead-single, trail-ascii, fits-upper, matched-le, matched-fits, matched-cut}
 
 -- A well-formed character b ∷ t, taken apart: the trailing ranges of b, which t fits.
 pub record Whole (b : ℕ) (t : Bytes) : Type 0 where
@@ -94,6 +94,11 @@ chars-flat gs h = ap chars (sym (append-nil (flat gs))) ∙ chars-flat-append gs
 pub utf8-flat : (gs : List Bytes) → all wellFormed gs ≡ true → isUtf8 (flat gs) ≡ true
 unfolding isUtf8
 utf8-flat gs h = rw (chars-flat gs h) h
+
+-- a well-formed character is a UTF-8 text
+pub utf8-whole : (g : Bytes) → wellFormed g ≡ true → isUtf8 g ≡ true
+unfolding texts all
+utf8-whole g h = rw (append-nil g) at (utf8-flat (g ∷ []) (all-cons wellFormed g [] h refl))
 
 -- the characters of a UTF-8 text are not changed by what follows
 pub chars-append : (s t : Bytes) → isUtf8 s ≡ true → chars (s ++ t) ≡ chars s ++ chars t

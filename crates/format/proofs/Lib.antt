@@ -1,9 +1,12 @@
 pub mod Lists
 pub mod Table
 pub mod Chars
+pub mod Shapes
+pub mod Scalars
 pub mod Replaced
 pub mod WhiteSpace
 pub mod Split
 pub mod Lines
 pub mod Order
 pub mod SplitUtf8
+pub mod Specimens

@@ -1,18 +1,12 @@
 -- Document 01, "Characters": with each maximal ill-formed subpart replaced by U+FFFD any bytes are UTF-8, and only a text that is
 -- UTF-8 already stays as it is. Both follow from the characters of a join. Assumes nothing.
-use Prim.Native.Nat.{ℕ}
 use mathlib.Core.Path.{_≡_, refl, sym, ap, _∙_}
 use mathlib.Core.Bool.{Bool, true, false}
-use mathlib.Core.List.{List, [], _∷_, _++_, append-nil}
+use mathlib.Core.List.{List, [], _∷_}
 use Rattle.format.specs.Bytes.{Bytes, if_then_else_, all, texts}
 use Rattle.format.specs.Characters.{trailIn, fits, wellFormed, isUtf8, chars, flat, replacement, orReplaced, replaced}
 use Rattle.format.proofs.Lists.{all-head, all-tail, all-cons}
-use Rattle.format.proofs.Chars.{flat-chars, utf8-flat, utf8-texts}
-
--- a well-formed character is a UTF-8 text
-pub utf8-whole : (g : Bytes) → wellFormed g ≡ true → isUtf8 g ≡ true
-unfolding texts all
-utf8-whole g h = rw (append-nil g) at (utf8-flat (g ∷ []) (all-cons wellFormed g [] h refl))
+use Rattle.format.proofs.Chars.{flat-chars, utf8-whole, utf8-texts}
 
 -- U+FFFD is a well-formed character
 pub whole-replacement : wellFormed replacement ≡ true

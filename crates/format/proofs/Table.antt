@@ -1,17 +1,17 @@
 -- Laws of a table of lead and trailing ranges, and the tests that Table 3-7 passes. Each fact of its nine rows is one test that
 -- computes; the laws carry it to the row that a lead byte picks. Assumes nothing.
-use Prim.Native.Nat.{ℕ, zero, suc, _+_, _≤_, _<_}
-use mathlib.Core.Path.{_≡_, refl, sym, ap, _∙_}
-use mathlib.Core.Bool.{Bool, true, false, _&&_, false≢true}
-use mathlib.Core.Logic.{_⊎_, inl, inr, ⊎-elim}
+use Prim.Native.Nat.{ℕ, zero, suc, _≤_, _<_}
+use mathlib.Core.Path.{_≡_, refl, ap}
+use mathlib.Core.Bool.{Bool, true, false, _&&_, false≢true, and-false}
+use mathlib.Core.Logic.{⊎-elim}
 use mathlib.Core.List.{List, [], _∷_, _++_}
-use mathlib.Core.Option.{Option, none, some}
+use mathlib.Core.Option.{some}
 use native.Mathlib.Omega.{arith}
 use lib.Dec.{leb, ltb}
-use lib.ListN.{length}
+use lib.ListN.{length, getD}
 use borrow.Author.Tests.{leb-true, le-leb, lt-leb, ltb-true}
 use Rattle.format.specs.Bytes.{Bytes, if_then_else_, all}
-use Rattle.format.specs.Characters.{Range, _to_, within, Row, row, table-3-7, trailIn, trailOf, fits, fitsSome, wellFormed, matched}
+use Rattle.format.specs.Characters.{Range, _to_, within, Row, row, table-3-7, trailIn, trailOf, fits, wellFormed, matched}
 use Rattle.format.proofs.Lists.{bcase, and-left, and-right, and-intro, all-head, all-tail}
 
 pub within-low : (n : ℕ) (r : Range) → within n r ≡ true → r .first ≤ n
@@ -44,6 +44,7 @@ picks q (r ∷ rows) b tr h e =
     (λ f. picks q rows b tr (all-tail q r rows h) (rw f at e))
     (bcase (within b (r .lead)))
 
+-- the ranges begin at 128 or more
 abbrev pub upper : List Range → Bool
 upper rs = all (λ r. leb 128 (r .first)) rs
 
@@ -128,3 +129,40 @@ matched-cut [] s b t h k = refl
 matched-cut (r ∷ rs) [] b t h k =
     rw (within-below b r (omega (arith, leb-true 128 (r .first) (and-left (leb 128 (r .first)) (upper rs) h)))) refl
 matched-cut (r ∷ rs) (a ∷ s) b t h k = rw (matched-cut rs s b t (and-right (leb 128 (r .first)) (upper rs) h) k) refl
+
+-- a number above a range is not in it
+within-above : (n : ℕ) (r : Range) → r .last < n → within n r ≡ false
+within-above n r h = rw (lt-leb n (r .last) h) (and-false (leb (r .first) n))
+
+-- each lead range lies below all later ones
+rising : List Row → Bool
+rising [] = true
+rising (r ∷ rows) = all (λ q. ltb (r .lead .last) (q .lead .first)) rows && rising rows
+
+-- what a place outside a table reads
+abbrev pub noRow : Row
+noRow = row (0 to 0) []
+
+all-at : (p : Row → Bool) (rows : List Row) (k : ℕ) → all p rows ≡ true → k < length rows → p (getD rows k noRow) ≡ true
+all-at p [] k h i = absurd (omega arith)
+all-at p (r ∷ rows) zero h i = all-head p r rows h
+all-at p (r ∷ rows) (suc k) h i = all-at p rows k (all-tail p r rows h) (omega arith)
+
+-- where lead ranges rise, a lead byte within that of row k picks row k
+hit : (rows : List Row) (k b : ℕ) → rising rows ≡ true → k < length rows → within b (getD rows k noRow .lead) ≡ true → trailIn rows b ≡ some (getD rows k noRow .trail)
+unfolding trailIn rising
+hit [] k b h i w = absurd (omega arith)
+hit (r ∷ rows) zero b h i w = rw w refl
+hit (r ∷ rows) (suc k) b h i w =
+    let below : Row → Bool = λ q. ltb (r .lead .last) (q .lead .first) in
+    let lt = ltb-true (r .lead .last) (getD rows k noRow .lead .first) (all-at below rows k (and-left (all below rows) (rising rows) h) (omega arith)) in
+    rw (within-above b (r .lead) (omega (arith, within-low b (getD rows k noRow .lead) w))) (hit rows k b (and-right (all below rows) (rising rows) h) (omega arith) w)
+
+-- row k of the table, from 0
+abbrev pub rowOf : ℕ → Row
+rowOf k = getD table-3-7 k noRow
+
+-- a lead byte of row k of the table with bytes that fit its trailing ranges is a well-formed character
+pub whole-row : (k b : ℕ) (t : Bytes) → k < 9 → rowOf k .lead .first ≤ b → b ≤ rowOf k .lead .last → fits (rowOf k .trail) t ≡ true → wellFormed (b ∷ t) ≡ true
+unfolding wellFormed rising all
+whole-row k b t i h j f = rw (hit table-3-7 k b refl i (within-intro b (rowOf k .lead) h j)) f

@@ -1,17 +1,17 @@
 -- Document 01, "Characters": the 25 white-space numbers are the ranges that the document lists. The lists agree by computation;
 -- that a number is among the numbers of ranges exactly when it is within one of them is one law over any ranges. Assumes nothing.
 use Prim.Native.Nat.{ℕ, zero, suc, _+_, _-_, _≤_, _<_}
-use mathlib.Core.Path.{_≡_, refl, sym, ap, _∙_}
-use mathlib.Core.Bool.{Bool, true, false, _&&_, _||_, or-assoc, false≢true}
-use mathlib.Core.Logic.{_⊎_, inl, inr, ⊎-elim}
+use mathlib.Core.Path.{_≡_, refl, sym, _∙_}
+use mathlib.Core.Bool.{Bool, true, false, _||_, or-assoc, false≢true}
+use mathlib.Core.Logic.{⊎-elim}
 use mathlib.Core.List.{List, [], _∷_, _++_}
 use native.Mathlib.Omega.{arith}
-use lib.Dec.{leb, eqb}
+use lib.Dec.{eqb}
 use lib.ListN.{length}
-use borrow.Author.Tests.{eqb-true, eqb-false, eq-eqb}
+use borrow.Author.Tests.{eqb-true, eqb-false}
 use Rattle.format.specs.Bytes.{any}
 use Rattle.format.specs.Characters.{Range, within, whiteSpace, whiteRanges}
-use Rattle.format.proofs.Lists.{bcase, or-intro-right}
+use Rattle.format.proofs.Lists.{bcase}
 use Rattle.format.proofs.Table.{within-low, within-high, within-intro}
 
 -- k numbers from a on
@@ -42,9 +42,9 @@ unfolding any upFrom
 among-low n zero a h = absurd (false≢true h)
 among-low n (suc k) a h =
     ⊎-elim
-        (λ e. omega (arith, eqb-true n a e))
-        (λ e. let i = among-low n k (a + 1) (rw e at h) in omega arith)
-        (bcase (eqb n a))
+    (λ e. omega (arith, eqb-true n a e))
+    (λ e. let i = among-low n k (a + 1) (rw e at h) in omega arith)
+    (bcase (eqb n a))
 
 -- and a number that lies there is among them
 among-in : (n k a : ℕ) → a ≤ n → n < a + k → any (eqb n) (upFrom k a) ≡ true
@@ -52,9 +52,9 @@ unfolding any upFrom
 among-in n zero a h i = absurd (omega arith)
 among-in n (suc k) a h i =
     ⊎-elim
-        (λ e. rw e refl)
-        (λ e. let ne : a < n = omega (arith, eqb-false n a e) in rw e (among-in n k (a + 1) (omega arith) (omega arith)))
-        (bcase (eqb n a))
+    (λ e. rw e refl)
+    (λ e. let ne : a < n = omega (arith, eqb-false n a e) in rw e (among-in n k (a + 1) (omega arith) (omega arith)))
+    (bcase (eqb n a))
 
 -- two tests that pass together are the same
 both : (a b : Bool) → (a ≡ true → b ≡ true) → (b ≡ true → a ≡ true) → a ≡ b
@@ -65,8 +65,8 @@ both false false f g = refl
 among-within : (n : ℕ) (r : Range) → any (eqb n) (upFrom (r .last + 1 - r .first) (r .first)) ≡ within n r
 among-within n r =
     both (any (eqb n) (upFrom (r .last + 1 - r .first) (r .first))) (within n r)
-        (λ h. let i = among-low n (r .last + 1 - r .first) (r .first) h in within-intro n r (omega arith) (omega arith))
-        (λ h. among-in n (r .last + 1 - r .first) (r .first) (within-low n r h) (omega (arith, within-low n r h, within-high n r h)))
+    (λ h. let i = among-low n (r .last + 1 - r .first) (r .first) h in within-intro n r (omega arith) (omega arith))
+    (λ h. among-in n (r .last + 1 - r .first) (r .first) (within-low n r h) (omega (arith, within-low n r h, within-high n r h)))
 
 -- a number is among the numbers of ranges exactly when it is within one of them
 pub listed-within : (n : ℕ) (rs : List Range) → any (eqb n) (listed rs) ≡ any (within n) rs

@@ -13,3 +13,4 @@ pub mod Showing
 pub mod Layout
 pub mod Changing
 pub mod Demand3
+pub mod Specimens
