@@ -5,8 +5,14 @@ pub mod Shapes
 pub mod Scalars
 pub mod Replaced
 pub mod WhiteSpace
+pub mod Trim
+pub mod Unescape
+pub mod Escape
+pub mod EscapeTrim
 pub mod Split
 pub mod Lines
 pub mod Order
 pub mod SplitUtf8
+pub mod Computing
 pub mod Specimens
+pub mod Examples

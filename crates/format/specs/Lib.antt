@@ -14,3 +14,4 @@ pub mod Layout
 pub mod Changing
 pub mod Demand3
 pub mod Specimens
+pub mod Examples
