@@ -5,7 +5,7 @@ use Rattle.format.specs.Refusals.{numbers, _carrying_}
 use Rattle.format.specs.Bytes.{Bytes, ascii}
 use Rattle.format.specs.Calls.{Stores, new}
 use Rattle.format.specs.Reading.{read}
-use Rattle.format.specs.Examples.{RefusalExamples, Limits, Mistakes, Shown}
+use Rattle.format.specs.Examples.{RefusalExamples, Limits}
 use Rattle.format.proofs.Computing.{computing}
 
 long-text : (t : Bytes) (stores : Stores) → length t ≡ 20971521 → numbers (read t stores) ≡ 1 carrying 20971521
@@ -65,12 +65,3 @@ limits =
       peak = (refl, refl);
       body = (refl, refl);
     }
-
-pub mistakes : Mistakes
-unfolding computing
-mistakes = record { params = refl; tabs = refl; replacing = refl; white = refl; dotted = refl }
-
-pub shown : Shown
-unfolding computing
-shown =
-    record { addressed = refl; emptyAddress = refl; noAddress = refl; found = refl; absent = refl; printed = refl; refusedPrinted = refl }

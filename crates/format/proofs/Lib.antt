@@ -16,3 +16,4 @@ pub mod SplitUtf8
 pub mod Computing
 pub mod Specimens
 pub mod Examples
+pub mod Rules

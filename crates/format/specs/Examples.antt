@@ -1,21 +1,17 @@
--- Document 01: the example of each row of the refusal table, the limits at and one past, the mistakes to expect, and the example of
--- `showcpim`; proved in proofs/Examples.antt. Assumes nothing.
+-- Document 01: the example of each row of the refusal table, and the limits at and one past; proved in proofs/Examples.antt. Assumes nothing.
 use Prim.Native.Nat.{ℕ}
 use mathlib.Core.Path.{_≡_}
 use mathlib.Core.List.{List, [], _∷_, _++_}
 use mathlib.Core.Option.{Option, none, some}
 use lib.ListN.{length, replicate}
 use Rattle.format.specs.Bytes.{Bytes, ascii, texts}
-use Rattle.format.specs.Characters.{trim}
 use Rattle.format.specs.Refusals.{Out, accepted, refused, Numbers, _carrying_, numbers, pass}
 use Rattle.format.specs.Validators.{headerName, headerValue, contentValue, paramName, paramValue, contentType}
 use Rattle.format.specs.Message.{Entry, entry, Alone, Header, Message}
-use Rattle.format.specs.Calls.{Stores, fresh, new, addHeader, setHeader, addParam, setBody, answer, Call, add-header, set-header, withParam}
+use Rattle.format.specs.Calls.{Stores, fresh, new, addHeader, setHeader, addParam, setBody, answer, add-header, withParam}
 use Rattle.format.specs.Writing.{toText}
-use Rattle.format.specs.Reading.{read, readHeader}
-use Rattle.format.specs.LookingUp.{address, getHeader}
-use Rattle.format.specs.Showing.{showcpim}
-use Rattle.format.specs.Specimens.{roomy, single, back, withTwenty}
+use Rattle.format.specs.Reading.{read}
+use Rattle.format.specs.Specimens.{roomy, single}
 
 -- a text with this header line and this content line
 abbrev pub notice : Bytes → Bytes → Bytes
@@ -97,27 +93,3 @@ pub record Limits : Type 0 where
       × (numbers (read (ascii "message/cpim\n\na:b\n\nx:yy\nx:y\n\n") (record { head = 293; body = 0 })) ≡ 0 carrying 0)
   pub body : (numbers (setBody (ascii "Hi") (record { head = 256; body = 1 }) (headersOf 0)) ≡ 26 carrying 2)
       × (numbers (setBody (ascii "Hi") (record { head = 256; body = 2 }) (headersOf 0)) ≡ 0 carrying 0)
-
--- The mistakes to expect are not made.
-pub record Mistakes : Type 0 where
-  -- parameters read after the colon
-  pub params : readHeader (ascii "To:;a=b c") ≡ accepted (record { name = ascii "To"; value = ascii ";a=b c"; params = [] })
-  -- outer tabs counted as lost
-  pub tabs : back (single (ascii "To") (ascii "\ta\t") []) ≡ accepted (single (ascii "To") (ascii "\ta\t") [])
-  -- the 22 test skipped on replacing
-  pub replacing : readContentOf (texts (λ c. c ∷ ascii ": x\r\n") (ascii "abcdefghijklmnopqrsta")) ≡ 22 carrying 21
-  -- white space cut to ASCII: U+00A0 and U+3000
-  pub white : trim (0xC2 ∷ 0xA0 ∷ ascii "a" ++ (0xE3 ∷ 0x80 ∷ 0x80 ∷ [])) ≡ ascii "a"
-  -- U+0130 taken for i in message/cpim
-  pub dotted : numbers (read (ascii "message/cp" ++ (0xC4 ∷ 0xB0 ∷ ascii "m\n\nTo: a\n\n\n\n")) roomy) ≡ 3 carrying 0
-
--- Looking up, and what `showcpim` prints
-pub record Shown : Type 0 where
-  pub addressed : address (ascii "Alice <im:a@b>") ≡ some (ascii "im:a@b")
-  pub emptyAddress : address (ascii "<>") ≡ some []
-  pub noAddress : address (ascii "a > b < c") ≡ none
-  pub found : getHeader (some (single (ascii "To") (ascii "a") [])) (ascii "To") ≡ some (ascii "a")
-  pub absent : getHeader (some (single (ascii "To") (ascii "a") [])) (ascii "to") ≡ none
-  pub printed : showcpim (notice (ascii "From: <im:a@b>") (ascii "Content-type: text/plain"))
-      ≡ ascii "result=0\ncarried=0\nheaders=1\nparams=0\ncontents=0\ntype=text/plain\nbody=2\n"
-  pub refusedPrinted : showcpim (ascii "Hi") ≡ ascii "result=2\ncarried=0\n"

@@ -15,3 +15,4 @@ pub mod Changing
 pub mod Demand3
 pub mod Specimens
 pub mod Examples
+pub mod Rules
