@@ -1,7 +1,7 @@
 -- What an accepted call has passed, and what it gives: the calls of document 01 read backwards, once, so that no other proof
 -- unfolds them. Assumes nothing.
 use Prim.Native.Nat.{ℕ, suc, _+_, _≤_}
-use mathlib.Core.Path.{_≡_, sym}
+use mathlib.Core.Path.{_≡_, sym, ap, _∙_}
 use mathlib.Core.Bool.{true}
 use mathlib.Core.List.{List, []}
 use mathlib.Core.Option.{some}
@@ -14,9 +14,38 @@ use Rattle.format.specs.Characters.{isUtf8}
 use Rattle.format.specs.Limits.{maxHeaders, maxParams, maxContents, maxBody}
 use Rattle.format.specs.Refusals.{noRoom, tooShort, bodyTooLong, tooManyHeaders, tooManyParams, tooManyContents, notUtf8, accepted, passes}
 use Rattle.format.specs.Validators.{headerName, headerValue, contentValue, paramName, paramValue, contentType, utf8}
-use Rattle.format.specs.Message.{Entry, entry, Alone, Header, nameOf, named, Message, insert, without, put, need}
+use Rattle.format.specs.Message.{Entry, entry, Alone, Header, nameOf, named, Message, insert, without, put, need, needAlone}
 use Rattle.format.specs.Calls
-use Rattle.format.specs.Calls.{Stores, room, bodyLength, headerCount, paramCount, contentCount, ifRoom, withHeaders, withContents, withBody, fresh, new, setBody, setHeader, append, addHeaderObj, addHeader, addContentHeader, aloneOf, setParam, addParam, Call, arguments, change, answer}
+use Rattle.format.specs.Calls.{
+  Stores,
+  room,
+  bodyLength,
+  headerCount,
+  paramCount,
+  contentCount,
+  ifRoom,
+  withHeaders,
+  withContents,
+  withBody,
+  fresh,
+  new,
+  setBody,
+  setHeader,
+  append,
+  addHeaderObj,
+  addHeader,
+  addContentHeader,
+  aloneOf,
+  setParam,
+  addParam,
+  ifRoomAlone,
+  newHeader,
+  withParam,
+  Call,
+  arguments,
+  change,
+  answer,
+}
 use Rattle.format.proofs.Steps.{accepted-same, then-accepted, bind-accepted, refuseIf-passes, refuseUnless-passes, atMost-passes}
 
 -- the checks of calls
@@ -151,6 +180,32 @@ unfolding addParam
 addParam-accepted n v a k h =
     let h1 = bind-accepted _ _ _ h in
     (h1 .0, h1 .1, sym (accepted-same _ k (h1 .2)))
+
+pub ifRoomAlone-accepted : (store : ℕ) (a k : Alone) → ifRoomAlone store a ≡ accepted k → (a ≡ k) × (needAlone k ≤ store)
+unfolding ifRoomAlone
+ifRoomAlone-accepted store a k h =
+    let h1 = then-accepted _ _ _ h in
+    let e = accepted-same a k (h1 .0) in
+    (e, rw (← e) (room-passes store (needAlone a) (h1 .1)))
+
+pub newHeader-accepted : (v : Bytes) (store : ℕ) (k : Alone) → newHeader v store ≡ accepted k
+    → (aloneOf v ≡ accepted k) × (isUtf8 v ≡ true) × (needAlone k ≤ store)
+unfolding newHeader
+newHeader-accepted v store k h =
+    let h1 = then-accepted _ _ _ h in
+    let h2 = bind-accepted _ _ _ (h1 .0) in
+    let r = ifRoomAlone-accepted store (h2 .0) k (h2 .2) in
+    (h2 .1 ∙ ap accepted (r .0), utf8-passes v (h1 .1), r .1)
+
+pub withParam-accepted : (n v : Bytes) (store : ℕ) (a k : Alone) → withParam n v store (some a) ≡ accepted k
+    → (addParam n v a ≡ accepted k) × (isUtf8 n ≡ true) × (isUtf8 v ≡ true) × (needAlone k ≤ store)
+unfolding withParam
+withParam-accepted n v store a k h =
+    let h1 = then-accepted _ _ _ h in
+    let h2 = then-accepted _ _ _ (h1 .0) in
+    let h3 = bind-accepted _ _ _ (h2 .0) in
+    let r = ifRoomAlone-accepted store (h3 .0) k (h3 .2) in
+    (h3 .1 ∙ ap accepted (r .0), utf8-passes n (h1 .1), utf8-passes v (h2 .1), r .1)
 
 pub answer-accepted : (c : Call) (st : Stores) (m k : Message) → answer c st (some m) ≡ accepted k
     → (change c st m ≡ accepted k) × (all isUtf8 (arguments c) ≡ true)

@@ -49,6 +49,24 @@ module _ {A : Type 0} (key : A → Bytes) where
       (λ e. rw e (all-cons p y (insert key x ys) (all-head p y ys k) (all-insert p x ys h (all-tail p y ys k))))
       (bcase (before (key x) (key y)))
 
+  -- and the other way: what all of a list with x inserted pass, x and the others pass
+  pub all-inserted : (p : A → Bool) (x : A) (xs : List A) → all p (insert key x xs) ≡ true → (p x ≡ true) × (all p xs ≡ true)
+  unfolding insert all
+  all-inserted p x [] h = (all-head p x [] h, refl)
+  all-inserted p x (y ∷ ys) h = ⊎-elim front (behind (all-inserted p x ys)) (bcase (before (key x) (key y)))
+    where
+      front : before (key x) (key y) ≡ true → (p x ≡ true) × (all p (y ∷ ys) ≡ true)
+      front e =
+          let k = rw e at h in
+          (all-head p x (y ∷ ys) k, all-tail p x (y ∷ ys) k)
+
+      behind : (all p (insert key x ys) ≡ true → (p x ≡ true) × (all p ys ≡ true)) → before (key x) (key y) ≡ false
+          → (p x ≡ true) × (all p (y ∷ ys) ≡ true)
+      behind ih e =
+          let k = rw e at h in
+          let r = ih (all-tail p y (insert key x ys) k) in
+          (r .0, all-cons p y ys (all-head p y (insert key x ys) k) (r .1))
+
   pub all-without : (p : A → Bool) (k : Bytes) (xs : List A) → all p xs ≡ true → all p (without key k xs) ≡ true
   unfolding without
   all-without p k [] h = h

@@ -21,6 +21,7 @@ pub mod Parts
 pub mod Valid
 pub mod ReadValid
 pub mod Room
+pub mod Runs
 pub mod Checked
 pub mod Within
 pub mod WriteText
@@ -32,6 +33,7 @@ pub mod Measure
 pub mod ReadOver
 pub mod Headless
 pub mod OnlyIf
+pub mod Demand3
 pub mod Computing
 pub mod Specimens
 pub mod Examples

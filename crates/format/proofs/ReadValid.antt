@@ -8,7 +8,25 @@ use mathlib.Core.List.{List, [], _∷_}
 use mathlib.Core.Option.{Option, none, some}
 use native.Mathlib.Omega.{arith}
 use lib.ListN.{length}
-use Rattle.format.specs.Bytes.{Bytes, ascii, all, any, colon, semicolon, equals, CRLF, CRLFCRLF, occurs, has, upTo, past, sameLetters, Pieces, pieces, split}
+use Rattle.format.specs.Bytes.{
+  Bytes,
+  ascii,
+  all,
+  any,
+  colon,
+  semicolon,
+  equals,
+  CRLF,
+  CRLFCRLF,
+  occurs,
+  has,
+  upTo,
+  past,
+  sameLetters,
+  Pieces,
+  pieces,
+  split,
+}
 use Rattle.format.specs.Characters.{isUtf8, isAsciiControl, isWhite, trim}
 use Rattle.format.specs.Escaping.{unescape}
 use Rattle.format.specs.Refusals.{badEscape, tooFewSections, Out, accepted, passes, refuseIf, atMost, _>>_}
@@ -157,7 +175,8 @@ readNamed-fits n v st m k u x f h =
     (λ e g. record { within = addContentHeader-within st m k (f .within) n v u x g; roomy = (addContentHeader-accepted n v st m k g) .4 })
     h
 
-readContentLine-fits : (st : Stores) (l : Bytes) (m k : Message) → isUtf8 l ≡ true → Fits (st .head) m → readContentLine st l m ≡ accepted k → Fits (st .head) k
+readContentLine-fits : (st : Stores) (l : Bytes) (m k : Message) → isUtf8 l ≡ true → Fits (st .head) m → readContentLine st l m ≡ accepted k
+    → Fits (st .head) k
 unfolding readContentLine
 readContentLine-fits st l m k u f h =
     if-accepted (has colon l) _ _ k
@@ -192,7 +211,10 @@ module _ (r : Bytes → Out Header) (good : (l : Bytes) (h : Header) → isUtf8 
       let h4 = bind-accepted _ _ _ (h3 .2) in
       let f : Fits (st .head) blank = record { within = blank-within; roomy = room-passes (st .head) (need blank) (h2 .1) } in
       let g = each-keeps (Fits (st .head)) isUtf8 (readHeaderLine r st) (readHeaderLine-fits st) (lines headers) blank (h3 .0) (lines-utf8 headers u) f (h3 .1) in
-      let k = each-keeps (Fits (st .head)) isUtf8 (readContentLine st) (readContentLine-fits st) (lines contents) (h3 .0) (h4 .0) (lines-utf8 contents x) g (h4 .1) in
+      let k =
+      each-keeps (Fits (st .head)) isUtf8 (readContentLine st) (readContentLine-fits st) (lines contents) (h3 .0) (h4 .0) (lines-utf8 contents x) g
+      (h4 .1)
+      in
       let b = setBody-accepted (bodyOf rest) st (h4 .0) m (h4 .2) in
       let w = setBody-within st (h4 .0) m (k .within) (bodyOf rest) (h4 .2) in
       (record { within = w; roomy = rw (b .0) (k .roomy) }, rw (b .0) (b .2))

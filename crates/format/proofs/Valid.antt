@@ -1,6 +1,6 @@
 -- Every call keeps a message within limits and validators: what a call puts in it has checked, and the order of names, the counts
 -- and the rest stay. Assumes nothing.
-
+use Prim.Native.Nat.{ℕ}
 use mathlib.Core.Path.{_≡_, refl, _∙_}
 use mathlib.Core.Bool.{true}
 use mathlib.Core.List.{List, [], _∷_, _++_}
@@ -9,13 +9,55 @@ use native.Mathlib.Omega.{arith}
 use Rattle.format.specs.Bytes.{Bytes, ascii, all}
 use Rattle.format.specs.Characters.{isUtf8}
 use Rattle.format.specs.Refusals.{Out, accepted, refused, nothingHeld}
-use Rattle.format.specs.Message.{Entry, entry, Alone, Header, nameOf, named, Message, without, increasing, valid}
-use Rattle.format.specs.Calls.{Stores, new, setBody, setHeader, append, addHeaderObj, addHeader, addContentHeader, aloneOf, setParam, addParam, Call, set-body, set-header, add-header, add-header-obj, add-content-header, with-from, with-to, with-datetime, with-subject, with-subject-lang, with-cc, with-ns, with-require, with-content-header, arguments, nsValue, change, answer}
+use Rattle.format.specs.Message.{Entry, entry, Alone, Header, nameOf, named, Message, without, ascending, increasing, validAlone, valid}
+use Rattle.format.specs.Calls.{
+  Stores,
+  new,
+  setBody,
+  setHeader,
+  append,
+  addHeaderObj,
+  addHeader,
+  addContentHeader,
+  aloneOf,
+  setParam,
+  addParam,
+  newHeader,
+  withParam,
+  Call,
+  set-body,
+  set-header,
+  add-header,
+  add-header-obj,
+  add-content-header,
+  with-from,
+  with-to,
+  with-datetime,
+  with-subject,
+  with-subject-lang,
+  with-cc,
+  with-ns,
+  with-require,
+  with-content-header,
+  arguments,
+  nsValue,
+  change,
+  answer,
+}
 use Rattle.format.specs.Demand3.{holdsHeader, next, after}
 use Rattle.format.proofs.Lists.{all-head, all-tail}
 use Rattle.format.proofs.Chars.{utf8-append, utf8-ascii-text}
 use Rattle.format.proofs.Steps.{refused-accepted, bind-accepted}
-use Rattle.format.proofs.Keyed.{all-insert, all-without, length-insert, ascending-insert, ascending-without, all-put, increasing-put, length-put}
+use Rattle.format.proofs.Keyed.{
+  all-insert,
+  all-without,
+  length-insert,
+  ascending-insert,
+  ascending-without,
+  all-put,
+  increasing-put,
+  length-put,
+}
 use Rattle.format.proofs.Accepted.{
   new-accepted,
   setBody-accepted,
@@ -27,9 +69,23 @@ use Rattle.format.proofs.Accepted.{
   aloneOf-accepted,
   setParam-accepted,
   addParam-accepted,
+  newHeader-accepted,
+  withParam-accepted,
   answer-accepted,
 }
-use Rattle.format.proofs.Parts.{Params, ByItself, Head, Within, param-whole, content-whole, alone-parts, header-whole, message-parts, message-whole}
+use Rattle.format.proofs.Parts.{
+  Params,
+  ByItself,
+  Head,
+  Within,
+  param-whole,
+  content-whole,
+  alone-parts,
+  alone-whole,
+  header-whole,
+  message-parts,
+  message-whole,
+}
 
 -- a list with no parameter
 pub no-params : Params []
@@ -37,7 +93,7 @@ unfolding all increasing
 no-params = record { each = refl; ordered = refl; few = omega arith }
 
 pub new-valid : (t b : Bytes) (st : Stores) (m : Message) → new t b st ≡ accepted m → valid m ≡ true
-unfolding all increasing Rattle.format.specs.Message.ascending
+unfolding all ascending increasing
 new-valid t b st m h =
     let a = new-accepted t b st m h in
     rw (a .0)
@@ -143,6 +199,16 @@ addParam-within n v a k u x w h =
     rw (q .2)
     (record { valued = w .valued; value-utf8 = w .value-utf8; params = setParam-within n v (a .params) (q .0) u x (w .params) (q .1) })
 
+pub newHeader-valid : (v : Bytes) (store : ℕ) (k : Alone) → newHeader v store ≡ accepted k → validAlone k ≡ true
+newHeader-valid v store k h =
+    let q = newHeader-accepted v store k h in
+    alone-whole k (aloneOf-within v k (q .1) (q .0))
+
+pub withParam-valid : (n v : Bytes) (store : ℕ) (a k : Alone) → validAlone a ≡ true → withParam n v store (some a) ≡ accepted k → validAlone k ≡ true
+withParam-valid n v store a k w h =
+    let q = withParam-accepted n v store a k h in
+    alone-whole k (addParam-within n v a k (q .1) (q .2) (alone-parts a w) (q .0))
+
 -- the arguments of a call are UTF-8, and so is what `with_ns` makes of them
 one : (s : Bytes) → all isUtf8 (s ∷ []) ≡ true → isUtf8 s ≡ true
 one s h = all-head isUtf8 s [] h
@@ -191,7 +257,8 @@ change-within (with-ns p v) st m k g u w h =
 change-within (with-require v) st m k g u w h = addHeader-within st m k w (ascii "Require") v (utf8-ascii-text (ascii "Require") refl) (one v u) h
 change-within (with-content-header n v) st m k g u w h = addContentHeader-within st m k w n v (first n v u) (second n v u) h
 
-pub answer-valid : (c : Call) (st : Stores) (m k : Message) → holdsHeader c ≡ true → valid m ≡ true → answer c st (some m) ≡ accepted k → valid k ≡ true
+pub answer-valid : (c : Call) (st : Stores) (m k : Message) → holdsHeader c ≡ true → valid m ≡ true → answer c st (some m) ≡ accepted k
+    → valid k ≡ true
 answer-valid c st m k g v h =
     let a = answer-accepted c st m k h in
     message-whole k (change-within c st m k g (a .1) (message-parts m v) (a .0))
