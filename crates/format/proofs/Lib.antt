@@ -23,7 +23,6 @@ pub mod ReadValid
 pub mod Room
 pub mod Runs
 pub mod Checked
-pub mod Within
 pub mod WriteText
 pub mod ReadLine
 pub mod Last

@@ -20,7 +20,7 @@ use Rattle.format.proofs.Replaced.{replaced-only}
 use Rattle.format.proofs.Trim.{trim-full}
 use Rattle.format.proofs.Steps.{then-accepted, bind-accepted}
 use Rattle.format.proofs.Accepted.{setBody-accepted}
-use Rattle.format.proofs.Within.{within}
+use Rattle.format.proofs.Parts.{message-parts}
 use Rattle.format.proofs.WriteText.{read-written}
 use Rattle.format.proofs.Measure.{headers-full, contents-full}
 use Rattle.format.proofs.ReadOver.{no-param-read, header-contents, headers-need, content-headers, contents-need, contents-type, type-line-gives}
@@ -55,13 +55,13 @@ module _ (m : Message) (st : Stores) (v : valid m ≡ true) (a b : Message)
 
   no-params : all noParam (m .headers) ≡ true
   unfolding all
-  no-params = ap (all noParam) same-headers ∙ no-param-read st (m .headers) blank a ((within m v) .headers-within) refl heads
+  no-params = ap (all noParam) same-headers ∙ no-param-read st (m .headers) blank a ((message-parts m v) .headers .each) refl heads
 
   clear-headers : all (λ h. clearName h && clearValue h) (m .headers) ≡ true
   unfolding total
   clear-headers =
-      let w = within m v in
-      let n = headers-need st (m .headers) blank a (all-both validHeader noParam (m .headers) (w .headers-within) no-params) heads in
+      let w = message-parts m v in
+      let n = headers-need st (m .headers) blank a (all-both validHeader noParam (m .headers) (w .headers .each) no-params) heads in
       headers-full (m .headers) (omega (arith, ap (total needHeader) same-headers))
 
   -- the type line's message, and the content headers from there
@@ -75,14 +75,14 @@ module _ (m : Message) (st : Stores) (v : valid m ≡ true) (a b : Message)
   clear-contents : all (λ e. notType e && clearContent e) (m .contents) ≡ true
   unfolding total
   clear-contents =
-      let w = within m v in
-      let n = contents-need st (m .contents) (typed .0) b (w .contents-within) (typed .2) in
-      let none : (typed .0) .contents ≡ [] = ap (λ (k : Message). k .contents) (typed .1) ∙ header-contents st (m .headers) blank a (w .headers-within) heads in
+      let w = message-parts m v in
+      let n = contents-need st (m .contents) (typed .0) b (w .contents .each) (typed .2) in
+      let none : (typed .0) .contents ≡ [] = ap (λ (k : Message). k .contents) (typed .1) ∙ header-contents st (m .headers) blank a (w .headers .each) heads in
       contents-full (m .contents) (omega (arith, ap (λ (k : Message). total needEntry (k .contents)) same-rest, ap (total needEntry) none))
 
   clear-type : clearEnds isWhite (m .type) ≡ true
   clear-type =
-      let all-plain = all-both validContent (λ e. notType e && clearContent e) (m .contents) ((within m v) .contents-within) clear-contents in
+      let all-plain = all-both validContent (λ e. notType e && clearContent e) (m .contents) ((message-parts m v) .contents .each) clear-contents in
       let read-type = contents-type st (m .contents) (typed .0) b all-plain (typed .2) ∙ ap (λ (k : Message). k .type) (typed .1) in
       trim-full isWhite (m .type) (sym (ap length (ap (λ (k : Message). k .type) same-rest ∙ read-type)))
 

@@ -24,7 +24,7 @@ use Rattle.format.proofs.Lines.{line}
 use Rattle.format.proofs.Last.{insert-last, ascending-last, increasing-last, put-last}
 use Rattle.format.proofs.Trim.{trim-clear}
 use Rattle.format.proofs.Steps.{then-passed, bind-passed, refuseIf-passed, atMost-passed}
-use Rattle.format.proofs.Within.{header-within, content-within, type-passes}
+use Rattle.format.proofs.Parts.{header-parts, content-parts, type-parts}
 use Rattle.format.proofs.WriteText.{header-line-is}
 use Rattle.format.proofs.ReadLine.{read-header-plain, read-content-line, read-type-line}
 
@@ -42,10 +42,10 @@ no-params h n = go (h .params) n
 pub header-back : (h : Header) → validHeader h ≡ true → noParam h ≡ true → clearName h ≡ true → clearValue h ≡ true → readHeader (headerLine h) ≡ accepted h
 unfolding clearName clearValue
 header-back h v n c d =
-    let w = header-within h v in
+    let w = header-parts h v in
     let p = no-params h n in
     read-header-plain h v p
-    ∙ rw (trim-clear isWhite (h .name) c, trim-clear isLost (h .value) d, ← p) (then-passed (headerName (h .name)) (accepted h) (w .name-passes))
+    ∙ rw (trim-clear isWhite (h .name) c, trim-clear isLost (h .value) d, ← p) (then-passed (headerName (h .name)) (accepted h) (w .named))
 
 line-filled : (l : Bytes) → line l ≡ true → isEmpty l ≡ false
 unfolding line isEmpty
@@ -74,9 +74,9 @@ set-last : (st : Stores) (hs : List Header) (es : List Entry) (e : Entry) (t b :
     → addContentHeader (e .name) (e .value) st (parts hs t es b) ≡ accepted (parts hs t (es ++ (e ∷ [])) b)
 unfolding addContentHeader contentCount
 set-last st hs es e t b v o c r =
-    let w = content-within e v in
-    then-passed (headerName (e .name)) _ (w .name-passes)
-    ∙ then-passed (contentValue (e .value)) _ (w .value-passes)
+    let w = content-parts e v in
+    then-passed (headerName (e .name)) _ (w .named)
+    ∙ then-passed (contentValue (e .value)) _ (w .valued)
     ∙ then-passed (atMost maxContents tooManyContents (length es + 1)) _ (atMost-passed maxContents tooManyContents (length es + 1) (omega arith))
     ∙ rw (put-last e es o) (room-enough (st .head) (parts hs t (es ++ (e ∷ [])) b) r)
 
@@ -141,7 +141,7 @@ contents-back st hs es (k ∷ ks) t b v n c o l r =
 pub type-step : (st : Stores) (m : Message) (t : Bytes) → validType t ≡ true → clearEnds isWhite t ≡ true
     → readContentLine st (typeLine t) m ≡ accepted (parts (m .headers) t (m .contents) (m .body))
 unfolding readType
-type-step st m t v c = read-type-line t st m ∙ rw (trim-clear isWhite t c) (then-passed (contentType t) _ (type-passes t v))
+type-step st m t v c = read-type-line t st m ∙ rw (trim-clear isWhite t c) (then-passed (contentType t) _ (type-parts t v .passed))
 
 pub body-back : (st : Stores) (m : Message) (b : Bytes) → length b ≤ 10485760 → length b ≤ st .body
     → setBody b st m ≡ accepted (parts (m .headers) (m .type) (m .contents) b)

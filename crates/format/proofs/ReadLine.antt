@@ -40,7 +40,7 @@ use Rattle.format.proofs.Trim.{trim-shorter}
 use Rattle.format.proofs.EscapeTrim.{escape-trim}
 use Rattle.format.proofs.Steps.{then-accepted, then-passed, bind-accepted, accepted-same, refuseUnless-passed, atMost-passed}
 use Rattle.format.proofs.Checked.{name-checked, value-checked, none-none}
-use Rattle.format.proofs.Within.{header-within, content-within}
+use Rattle.format.proofs.Parts.{header-parts, content-parts}
 
 -- a byte differs from any that it is tested against
 other-way : (a b : ℕ) → eqb a b ≡ false → eqb b a ≡ false
@@ -83,9 +83,9 @@ pub read-header-line : (h : Header) → validHeader h ≡ true
       accepted (record { name = trim (h .name); value = v; params = [] })
 unfolding readHeader headerLine readParts each _>>=_
 read-header-line h v =
-    let w = header-within h v in
-    let c = name-colon (h .name) (w .name-passes) in
-    let s = name-semicolon (h .name) (w .name-passes) in
+    let w = header-parts h v in
+    let c = name-colon (h .name) (w .named) in
+    let s = name-semicolon (h .name) (w .named) in
     then-passed (refuseIf (not (has colon (h .name ++ (colon ∷ behindColon h)))) lacksColon) _
     (refuseUnless-passed (has colon (h .name ++ (colon ∷ behindColon h))) lacksColon (has-at colon (h .name) (behindColon h)))
     ∙ rw (upTo-at colon (h .name) (behindColon h) c, past-at colon (h .name) (behindColon h) c, split-none (semicolon ∷ []) (h .name) (occurs-clear semicolon [] (h .name) s)) refl
@@ -109,8 +109,8 @@ pub read-header-plain : (h : Header) → validHeader h ≡ true → h .params �
       accepted (record { name = trim (h .name); value = trimBy isLost (h .value); params = [] })
 unfolding texts _>>=_
 read-header-plain h v e =
-    let w = header-within h v in
-    read-header-line h v ∙ rw (e, read-value (h .value) (w .value-passes) (w .value-utf8)) refl
+    let w = header-parts h v in
+    read-header-line h v ∙ rw (e, read-value (h .value) (w .rest .valued) (w .rest .value-utf8)) refl
 
 pub read-header-no-params : (h : Header) → validHeader h ≡ true → (k : Header) → readHeader (headerLine h) ≡ accepted k → k .params ≡ []
 read-header-no-params h v k e =
@@ -129,7 +129,7 @@ content-cut n v st m c =
 pub read-content-line : (e : Entry) (st : Stores) (m : Message) → validContent e ≡ true
     → readContentLine st (contentLine e) m ≡ readNamed (trim (e .name)) (trim (e .value)) st m
 unfolding contentLine
-read-content-line e st m v = content-cut (e .name) (e .value) st m (name-colon (e .name) ((content-within e v) .name-passes))
+read-content-line e st m v = content-cut (e .name) (e .value) st m (name-colon (e .name) ((content-parts e v) .named))
 
 type-named : (v : Bytes) (st : Stores) (m : Message) → readNamed (trim (ascii "Content-type")) v st m ≡ readType v m
 unfolding readNamed sameLetters lower trimBy chars charsFrom trailIn matched dropFront dropBack isWhite wellFormed fits codePoint any texts

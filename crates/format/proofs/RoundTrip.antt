@@ -23,7 +23,7 @@ use Rattle.format.proofs.Replaced.{replaced-same}
 use Rattle.format.proofs.Escape.{escape-length}
 use Rattle.format.proofs.Steps.{then-passed, bind-passed, refuseIf-passed, atMost-passed}
 use Rattle.format.proofs.Checked.{name-checked, type-checked, content-checked, value-checked}
-use Rattle.format.proofs.Within.{Within, header-within, content-within, within, type-passes}
+use Rattle.format.proofs.Parts.{type-whole, Within, header-parts, content-parts, message-parts, type-parts}
 use Rattle.format.proofs.WriteText.{read-written}
 use Rattle.format.proofs.ReadBack.{parts, no-params, headers-back, contents-back, type-step, body-back}
 
@@ -32,17 +32,17 @@ use Rattle.format.proofs.ReadBack.{parts, no-params, headers-back, cont
 header-line-length : (h : Header) → validHeader h ≡ true → noParam h ≡ true → length (ended (headerLine h)) ≤ 6276
 unfolding headerLine texts
 header-line-length h v n =
-    let w = header-within h v in
-    let a = (name-checked (h .name) (w .name-passes)) .short in
-    let b = value-checked (h .value) (w .value-passes) in
+    let w = header-parts h v in
+    let a = (name-checked (h .name) (w .named)) .short in
+    let b = value-checked (h .value) (w .rest .valued) in
     rw (no-params h n) (simp length-append (omega (arith, escape-length (h .value))))
 
 content-line-length : (e : Entry) → validContent e ≡ true → length (ended (contentLine e)) ≤ 1156
 unfolding contentLine
 content-line-length e v =
-    let w = content-within e v in
-    let a = (name-checked (e .name) (w .name-passes)) .short in
-    let b = (content-checked (e .value) (w .value-passes)) .short in
+    let w = content-parts e v in
+    let a = (name-checked (e .name) (w .named)) .short in
+    let b = (content-checked (e .value) (w .valued)) .short in
     simp length-append (omega arith)
 
 headers-length : (hs : List Header) → all validHeader hs ≡ true → all noParam hs ≡ true → length (texts (λ h. ended (headerLine h)) hs) ≤ 6276 * length hs
@@ -71,10 +71,10 @@ text-length a b c d =
 pub write-length : (m : Message) → valid m ≡ true → all noParam (m .headers) ≡ true → isUtf8 (m .body) ≡ true → length (write m) ≤ 20971520
 unfolding write
 write-length m v n u =
-    let w = within m v in
-    let t = (type-checked (m .type) (type-passes (m .type) (w .type-within))) .short in
-    let hs = headers-length (m .headers) (w .headers-within) n in
-    let es = contents-length (m .contents) (w .contents-within) in
+    let w = message-parts m v in
+    let t = (type-checked (m .type) (w .type .passed)) .short in
+    let hs = headers-length (m .headers) (w .headers .each) n in
+    let es = contents-length (m .contents) (w .contents .each) in
     rw (
       replaced-same (m .body) u,
       text-length (texts (λ h. ended (headerLine h)) (m .headers)) (ended (typeLine (m .type))) (texts (λ e. ended (contentLine e)) (m .contents)) (m .body),
@@ -133,27 +133,27 @@ lines-back m ks st e w c r =
     let plain = ascii "text/plain" in
     let p = refuseIf-passed (ltb (st .head) (need blank)) (noRoom (need blank)) (le-ltb (st .head) (need blank) (omega arith)) in
     let hs =
-    headers-back st [] (m .headers) plain [] (w .headers-within) (c .no-param) (c .clear-names) (c .clear-values) (w .headers-ordered) (w .headers-few) (omega arith)
+    headers-back st [] (m .headers) plain [] (w .headers .each) (c .no-param) (c .clear-names) (c .clear-values) (w .headers .ordered) (w .headers .few) (omega arith)
     in
     let es =
-    contents-back st (m .headers) [] (m .contents) (m .type) [] (w .contents-within) (c .no-type) (c .clear-contents) (w .contents-ordered) (w .contents-few)
+    contents-back st (m .headers) [] (m .contents) (m .type) [] (w .contents .each) (c .no-type) (c .clear-contents) (w .contents .ordered) (w .contents .few)
     (omega arith)
     in
-    let ts = type-step st (parts (m .headers) plain [] []) (m .type) (w .type-within) (c .clear-type) in
+    let ts = type-step st (parts (m .headers) plain [] []) (m .type) (type-whole (m .type) (w .type)) (c .clear-type) in
     rw (← e)
     (then-passed (refuseIf (ltb (st .head) (need blank)) (noRoom (need blank))) _ p
     ∙ bind-passed (each (readHeaderLine readHeader st) (map headerLine (m .headers)) blank) _ (parts (m .headers) plain [] []) hs
     ∙ bind-passed (each (readContentLine st) (typeLine (m .type) ∷ map contentLine (m .contents)) (parts (m .headers) plain [] [])) _
     (parts (m .headers) (m .type) (m .contents) [])
     (bind-passed (readContentLine st (typeLine (m .type)) (parts (m .headers) plain [] [])) _ (parts (m .headers) (m .type) [] []) ts ∙ es)
-    ∙ rw (replaced-same (m .body) (c .body-utf8)) (body-back st (parts (m .headers) (m .type) (m .contents) []) (m .body) (w .body-short) (r .1)))
+    ∙ rw (replaced-same (m .body) (c .body-utf8)) (body-back st (parts (m .headers) (m .type) (m .contents) []) (m .body) (w .body) (r .1)))
 
 pub reads-back : (m : Message) (st : Stores) → valid m ≡ true → comesBack m ≡ true → RoomFor m st → read (write m) st ≡ accepted m
 unfolding hasHeader
 reads-back m st v b r = go (m .headers) refl
   where
     w : Within m
-    w = within m v
+    w = message-parts m v
 
     c : ComesBack m
     c = comes-back m b

@@ -23,7 +23,7 @@ use Rattle.format.proofs.Lines.{line, section-cut, lines-many, lines-on
 use Rattle.format.proofs.Escape.{escape-utf8, escape-printable}
 use Rattle.format.proofs.Steps.{then-passed, refuseUnless-passed}
 use Rattle.format.proofs.Checked.{name-checked, type-checked, content-checked, param-name-checked, param-value-checked, none-all, printable, all-printable}
-use Rattle.format.proofs.Within.{param-within, header-within, content-within, within, type-passes, type-utf8}
+use Rattle.format.proofs.Parts.{type-whole, param-parts, header-parts, content-parts, message-parts, type-parts}
 
 -- Lines.
 
@@ -39,36 +39,36 @@ both-high s t h k = all-append (leb 32) s t ∙ and-intro (all (leb 32) s) (all 
 param-high : (e : Entry) → validParam e ≡ true → all (leb 32) (paramText e) ≡ true
 unfolding paramText all inParamName inParamValue
 param-high e v =
-    let w = param-within e v in
-    let n = none-all inParamName (leb 32) (λ b h. printable b (or-false-left (isAsciiControl b) (has b (ascii ";=\\\"")) h)) (e .name) (param-name-checked (e .name) (w .name-passes)) in
-    let x = none-all inParamValue (leb 32) (λ b h. printable b (or-false-left (isAsciiControl b) (has b (ascii ";\\\"")) h)) (e .value) (param-value-checked (e .value) (w .value-passes)) in
+    let w = param-parts e v in
+    let n = none-all inParamName (leb 32) (λ b h. printable b (or-false-left (isAsciiControl b) (has b (ascii ";=\\\"")) h)) (e .name) (param-name-checked (e .name) (w .named)) in
+    let x = none-all inParamValue (leb 32) (λ b h. printable b (or-false-left (isAsciiControl b) (has b (ascii ";\\\"")) h)) (e .value) (param-value-checked (e .value) (w .valued)) in
     both-high (ascii ";") (e .name ++ (ascii "=" ++ e .value)) refl (both-high (e .name) (ascii "=" ++ e .value) n (both-high (ascii "=") (e .value) refl x))
 
 pub header-line-is : (h : Header) → validHeader h ≡ true → line (headerLine h) ≡ true
 unfolding headerLine all
 header-line-is h v =
-    let w = header-within h v in
-    let n = name-checked (h .name) (w .name-passes) in
+    let w = header-parts h v in
+    let n = name-checked (h .name) (w .named) in
     let value = ascii " " ++ escape (h .value) in
     let params = texts paramText (h .params) in
     line-append (h .name) (ascii ":" ++ (params ++ value)) (n .filled) (all-printable (h .name) (n .clear))
     (both-high (ascii ":") (params ++ value) refl
     (both-high params value
-    (all-texts (leb 32) paramText (h .params) (all-map validParam (λ e. all (leb 32) (paramText e)) param-high (h .params) (w .params-within)))
-    (both-high (ascii " ") (escape (h .value)) refl (escape-printable (h .value) (w .value-utf8)))))
+    (all-texts (leb 32) paramText (h .params) (all-map validParam (λ e. all (leb 32) (paramText e)) param-high (h .params) (w .rest .params .each)))
+    (both-high (ascii " ") (escape (h .value)) refl (escape-printable (h .value) (w .rest .value-utf8)))))
 
 pub content-line-is : (e : Entry) → validContent e ≡ true → line (contentLine e) ≡ true
 unfolding contentLine all
 content-line-is e v =
-    let w = content-within e v in
-    let n = name-checked (e .name) (w .name-passes) in
-    let c = content-checked (e .value) (w .value-passes) in
+    let w = content-parts e v in
+    let n = name-checked (e .name) (w .named) in
+    let c = content-checked (e .value) (w .valued) in
     line-append (e .name) (ascii ": " ++ e .value) (n .filled) (all-printable (e .name) (n .clear))
     (both-high (ascii ": ") (e .value) refl (all-printable (e .value) (c .clear)))
 
 pub type-line-is : (t : Bytes) → validType t ≡ true → line (typeLine t) ≡ true
 unfolding typeLine all isEmpty
-type-line-is t v = line-append (ascii "Content-type: ") t refl refl (all-printable t ((type-checked t (type-passes t v)) .clear))
+type-line-is t v = line-append (ascii "Content-type: ") t refl refl (all-printable t ((type-checked t (type-parts t v .passed)) .clear))
 
 all-mapped : {A B : Type 0} (f : A → B) (p : B → Bool) (xs : List A) → all (λ x. p (f x)) xs ≡ true → all p (map f xs) ≡ true
 unfolding all
@@ -129,11 +129,11 @@ pub write-sections : (m : Message) (h : Header) (hs : List Header) → valid m �
     ∷ pieces (split CRLFCRLF (replaced (m .body)))
 unfolding any
 write-sections m h hs v e =
-    let w = within m v in
+    let w = message-parts m v in
     ap sections (write-blocks m h hs e)
     ∙ cut-sections firstLine (headerLine h) (typeLine (m .type)) (map headerLine hs) (map contentLine (m .contents)) (replaced (m .body)) refl
-    (header-lines-are (h ∷ hs) (sym (ap (all validHeader) e) ∙ w .headers-within))
-    (all-cons line (typeLine (m .type)) (map contentLine (m .contents)) (type-line-is (m .type) (w .type-within)) (content-lines-are (m .contents) (w .contents-within)))
+    (header-lines-are (h ∷ hs) (sym (ap (all validHeader) e) ∙ w .headers .each))
+    (all-cons line (typeLine (m .type)) (map contentLine (m .contents)) (type-line-is (m .type) (type-whole (m .type) (w .type))) (content-lines-are (m .contents) (w .contents .each)))
 
 pub block-lines : (l : Bytes) (ls : List Bytes) → all line (l ∷ ls) ≡ true → lines (join CRLF (l ∷ ls)) ≡ l ∷ ls
 unfolding lines lineEnd
@@ -155,31 +155,31 @@ both-utf8 s t h k = utf8-append s t h ∙ k
 param-utf8 : (e : Entry) → validParam e ≡ true → isUtf8 (paramText e) ≡ true
 unfolding paramText all
 param-utf8 e v =
-    let w = param-within e v in
+    let w = param-parts e v in
     plain-utf8 (ascii ";") (e .name ++ (ascii "=" ++ e .value)) refl
     (both-utf8 (e .name) (ascii "=" ++ e .value) (w .name-utf8) (plain-utf8 (ascii "=") (e .value) refl (w .value-utf8)))
 
 pub header-line-utf8 : (h : Header) → validHeader h ≡ true → isUtf8 (headerLine h) ≡ true
 unfolding headerLine all
 header-line-utf8 h v =
-    let w = header-within h v in
+    let w = header-parts h v in
     let value = ascii " " ++ escape (h .value) in
     let params = texts paramText (h .params) in
     both-utf8 (h .name) (ascii ":" ++ (params ++ value)) (w .name-utf8)
     (plain-utf8 (ascii ":") (params ++ value) refl
     (both-utf8 params value
-    (utf8-texts paramText (h .params) (all-map validParam (λ e. isUtf8 (paramText e)) param-utf8 (h .params) (w .params-within)))
-    (plain-utf8 (ascii " ") (escape (h .value)) refl (escape-utf8 (h .value) (w .value-utf8)))))
+    (utf8-texts paramText (h .params) (all-map validParam (λ e. isUtf8 (paramText e)) param-utf8 (h .params) (w .rest .params .each)))
+    (plain-utf8 (ascii " ") (escape (h .value)) refl (escape-utf8 (h .value) (w .rest .value-utf8)))))
 
 pub content-line-utf8 : (e : Entry) → validContent e ≡ true → isUtf8 (contentLine e) ≡ true
 unfolding contentLine all
 content-line-utf8 e v =
-    let w = content-within e v in
+    let w = content-parts e v in
     both-utf8 (e .name) (ascii ": " ++ e .value) (w .name-utf8) (plain-utf8 (ascii ": ") (e .value) refl (w .value-utf8))
 
 pub type-line-utf8 : (t : Bytes) → validType t ≡ true → isUtf8 (typeLine t) ≡ true
 unfolding typeLine all
-type-line-utf8 t v = plain-utf8 (ascii "Content-type: ") t refl (type-utf8 t v)
+type-line-utf8 t v = plain-utf8 (ascii "Content-type: ") t refl (type-parts t v .utf8)
 
 ended-utf8 : (l : Bytes) → isUtf8 l ≡ true → isUtf8 (ended l) ≡ true
 unfolding all
@@ -188,7 +188,7 @@ ended-utf8 l h = both-utf8 l CRLF h (utf8-ascii-text CRLF refl)
 pub write-utf8 : (m : Message) → valid m ≡ true → isUtf8 (write m) ≡ true
 unfolding write all
 write-utf8 m v =
-    let w = within m v in
+    let w = message-parts m v in
     let body = CRLF ++ replaced (m .body) in
     let contents = texts (λ e. ended (contentLine e)) (m .contents) in
     let type = ended (typeLine (m .type)) in
@@ -197,12 +197,12 @@ write-utf8 m v =
     (plain-utf8 CRLF (headers ++ (CRLF ++ (type ++ (contents ++ body)))) refl
     (both-utf8 headers (CRLF ++ (type ++ (contents ++ body)))
     (utf8-texts (λ h. ended (headerLine h)) (m .headers)
-    (all-map validHeader (λ h. isUtf8 (ended (headerLine h))) (λ h k. ended-utf8 (headerLine h) (header-line-utf8 h k)) (m .headers) (w .headers-within)))
+    (all-map validHeader (λ h. isUtf8 (ended (headerLine h))) (λ h k. ended-utf8 (headerLine h) (header-line-utf8 h k)) (m .headers) (w .headers .each)))
     (plain-utf8 CRLF (type ++ (contents ++ body)) refl
-    (both-utf8 type (contents ++ body) (ended-utf8 (typeLine (m .type)) (type-line-utf8 (m .type) (w .type-within)))
+    (both-utf8 type (contents ++ body) (ended-utf8 (typeLine (m .type)) (type-line-utf8 (m .type) (type-whole (m .type) (w .type))))
     (both-utf8 contents body
     (utf8-texts (λ e. ended (contentLine e)) (m .contents)
-    (all-map validContent (λ e. isUtf8 (ended (contentLine e))) (λ e k. ended-utf8 (contentLine e) (content-line-utf8 e k)) (m .contents) (w .contents-within)))
+    (all-map validContent (λ e. isUtf8 (ended (contentLine e))) (λ e k. ended-utf8 (contentLine e) (content-line-utf8 e k)) (m .contents) (w .contents .each)))
     (plain-utf8 CRLF (replaced (m .body)) refl (replaced-utf8 (m .body))))))))
 
 -- Reading T.
@@ -243,10 +243,10 @@ pub read-written : (reader : Bytes → Out Header) (m : Message) (h : Header) (h
       setBody (replaced (m .body)) st b
 unfolding readWith
 read-written reader m h hs st v e =
-    let w = within m v in
+    let w = message-parts m v in
     ap (λ (x : Out Message). _>>_ (atMost maxText textTooLong (length (write m))) x)
     (then-passed (utf8 (write m)) (readSections reader (sections (write m)) st) (text-passes m v)
     ∙ rw (write-sections m h hs v e)
     (read-blocks reader (headerLine h) (typeLine (m .type)) (map headerLine hs) (map contentLine (m .contents)) (replaced (m .body)) st
-    (header-lines-are (h ∷ hs) (sym (ap (all validHeader) e) ∙ w .headers-within))
-    (all-cons line (typeLine (m .type)) (map contentLine (m .contents)) (type-line-is (m .type) (w .type-within)) (content-lines-are (m .contents) (w .contents-within)))))
+    (header-lines-are (h ∷ hs) (sym (ap (all validHeader) e) ∙ w .headers .each))
+    (all-cons line (typeLine (m .type)) (map contentLine (m .contents)) (type-line-is (m .type) (type-whole (m .type) (w .type))) (content-lines-are (m .contents) (w .contents .each)))))
