@@ -13,11 +13,11 @@ use Rattle.format.specs.Writing.{write}
 use Rattle.format.specs.Reading.{read}
 use Rattle.format.specs.Demand3.{Begins, by-new, by-reading, Reached, comesBack, Demand3}
 use Rattle.format.proofs.Steps.{accepted-same}
-use Rattle.format.proofs.Valid.{new-valid, after-valid}
-use Rattle.format.proofs.ReadValid.{read-valid}
-use Rattle.format.proofs.RoundTrip.{reads-back}
-use Rattle.format.proofs.OnlyIf.{back-only}
-use Rattle.format.proofs.Runs.{run-held}
+use Rattle.format.proofs.Messages.Valid.{new-valid, after-valid}
+use Rattle.format.proofs.Texts.ReadValid.{read-valid}
+use Rattle.format.proofs.Texts.RoundTrip.{reads-back}
+use Rattle.format.proofs.Texts.OnlyIf.{back-only}
+use Rattle.format.proofs.Messages.Runs.{run-held}
 
 begins-valid : (stores : Stores) (m : Message) → Begins stores m → valid m ≡ true
 begins-valid stores m (by-new t b h) = new-valid t b stores m h

@@ -1,0 +1,3 @@
+pub mod Unescape
+pub mod Escape
+pub mod EscapeTrim

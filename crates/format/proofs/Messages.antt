@@ -1,0 +1,9 @@
+pub mod Order
+pub mod Keyed
+pub mod Map
+pub mod Parts
+pub mod Checked
+pub mod Accepted
+pub mod Valid
+pub mod Room
+pub mod Runs

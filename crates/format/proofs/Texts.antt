@@ -1,0 +1,10 @@
+pub mod ReadValid
+pub mod WriteText
+pub mod ReadLine
+pub mod Last
+pub mod ReadBack
+pub mod RoundTrip
+pub mod Measure
+pub mod ReadOver
+pub mod Headless
+pub mod OnlyIf

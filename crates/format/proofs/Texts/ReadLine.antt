@@ -1,0 +1,140 @@
+-- Reading one written line: the first colon is the one behind the name, since a name holds none; a space behind it is trimmed away,
+-- and an escaped value comes back without the white space at its ends that is no control character. Assumes nothing.
+use Prim.Native.Nat.{ℕ}
+use mathlib.Core.Path.{_≡_, refl, sym, ap, _∙_}
+use mathlib.Core.Bool.{Bool, true, false, not}
+use mathlib.Core.List.{[], _∷_, _++_}
+use native.Mathlib.Omega.{arith}
+use lib.Dec.{eqb}
+use lib.ListN.{length}
+use borrow.Author.Tests.{eqb-false, ne-eqb}
+use Rattle.format.specs.Bytes.{Bytes, ascii, colon, semicolon, space, any, texts, has, lower, sameLetters}
+use Rattle.format.specs.Characters.{
+  trailIn,
+  fits,
+  wellFormed,
+  matched,
+  charsFrom,
+  chars,
+  codePoint,
+  isWhite,
+  dropFront,
+  dropBack,
+  trimBy,
+  isUtf8,
+  trim,
+  isLost,
+}
+use Rattle.format.specs.Escaping.{escape}
+use Rattle.format.specs.Limits.{maxValue}
+use Rattle.format.specs.Refusals.{lacksColon, valueTooLong, accepted, refuseIf, passes, _>>_, _>>=_}
+use Rattle.format.specs.Validators.{inName, headerName, headerValue}
+use Rattle.format.specs.Message.{Entry, Header, Message, validHeader, validContent}
+use Rattle.format.specs.Calls.{Stores}
+use Rattle.format.specs.Writing.{paramText, headerLine, contentLine, typeLine}
+use Rattle.format.specs.Reading.{each, checkedValue, readValue, readParts, readHeader, readType, readNamed, readContentLine}
+use Rattle.format.proofs.Lists.{or-false-left, or-false-right}
+use Rattle.format.proofs.Characters.Chars.{chars-ascii}
+use Rattle.format.proofs.Splitting.Split.{split-none, occurs-clear, has-at, upTo-at, past-at}
+use Rattle.format.proofs.Characters.Trim.{trim-shorter}
+use Rattle.format.proofs.Escaping.EscapeTrim.{escape-trim}
+use Rattle.format.proofs.Steps.{then-accepted, then-passed, bind-accepted, accepted-same, refuseUnless-passed, atMost-passed}
+use Rattle.format.proofs.Messages.Checked.{name-checked, value-checked, none-none}
+use Rattle.format.proofs.Messages.Parts.{header-parts, content-parts}
+
+-- a byte differs from any that it is tested against
+other-way : (a b : ℕ) → eqb a b ≡ false → eqb b a ≡ false
+other-way a b h = ne-eqb b a (λ e. eqb-false a b h (sym e))
+
+-- a name holds no colon and no semicolon
+pub name-colon : (s : Bytes) → passes (headerName s) ≡ true → has colon s ≡ false
+unfolding inName any
+name-colon s h =
+    none-none inName (eqb colon) (λ b k. other-way b colon (or-false-left (eqb b colon) (any (eqb b) (ascii ";=\\\"")) k)) s ((name-checked s h) .free)
+
+pub name-semicolon : (s : Bytes) → passes (headerName s) ≡ true → has semicolon s ≡ false
+unfolding inName any
+name-semicolon s h =
+    none-none inName (eqb semicolon)
+    (λ b k. other-way b semicolon
+    (or-false-left (eqb b semicolon) (any (eqb b) (ascii "=\\\"")) (or-false-right (eqb b colon) (any (eqb b) (ascii ";=\\\"")) k)))
+    s
+    ((name-checked s h) .free)
+
+space-white : isWhite (space ∷ []) ≡ true
+unfolding isWhite wellFormed trailIn fits codePoint any
+space-white = refl
+
+-- a space in front is trimmed away
+pub trim-space : (s : Bytes) → trim (space ∷ s) ≡ trim s
+unfolding trimBy dropFront
+trim-space s = rw (chars-ascii space s (omega arith), space-white) refl
+
+-- what is behind the name of a header's line: the parameters, a space, the escaped value
+abbrev pub behindColon : Header → Bytes
+behindColon h = texts paramText (h .params) ++ (ascii " " ++ escape (h .value))
+
+-- Left of the colon stands the name alone, so no parameter is read, whatever the header has.
+pub read-header-line : (h : Header) → validHeader h ≡ true
+    → readHeader (headerLine h)
+    ≡ do
+      headerName (trim (h .name))
+      v ← readValue (behindColon h)
+      accepted (record { name = trim (h .name); value = v; params = [] })
+unfolding readHeader headerLine readParts each _>>=_
+read-header-line h v =
+    let w = header-parts h v in
+    let c = name-colon (h .name) (w .named) in
+    let s = name-semicolon (h .name) (w .named) in
+    then-passed (refuseIf (not (has colon (h .name ++ (colon ∷ behindColon h)))) lacksColon) _
+    (refuseUnless-passed (has colon (h .name ++ (colon ∷ behindColon h))) lacksColon (has-at colon (h .name) (behindColon h)))
+    ∙ rw (upTo-at colon (h .name) (behindColon h) c, past-at colon (h .name) (behindColon h) c, split-none (semicolon ∷ []) (h .name) (occurs-clear semicolon [] (h .name) s)) refl
+
+-- what is trimmed stays within the limit
+pub value-trimmed : (p : Bytes → Bool) (v : Bytes) → passes (headerValue v) ≡ true → passes (headerValue (trimBy p v)) ≡ true
+unfolding headerValue
+value-trimmed p v h = atMost-passed maxValue valueTooLong (length (trimBy p v)) (omega (arith, value-checked v h, trim-shorter p v))
+
+-- the value of a header without parameters
+pub read-value : (v : Bytes) → passes (headerValue v) ≡ true → isUtf8 v ≡ true → readValue (space ∷ escape v) ≡ accepted (trimBy isLost v)
+unfolding readValue checkedValue
+read-value v h u =
+    rw (trim-space (escape v), escape-trim v u)
+    (then-passed (headerValue (trimBy isLost v)) (accepted (trimBy isLost v)) (value-trimmed isLost v h))
+
+pub read-header-plain : (h : Header) → validHeader h ≡ true → h .params ≡ []
+    → readHeader (headerLine h)
+    ≡ do
+      headerName (trim (h .name))
+      accepted (record { name = trim (h .name); value = trimBy isLost (h .value); params = [] })
+unfolding texts _>>=_
+read-header-plain h v e =
+    let w = header-parts h v in
+    read-header-line h v ∙ rw (e, read-value (h .value) (w .rest .valued) (w .rest .value-utf8)) refl
+
+pub read-header-no-params : (h : Header) → validHeader h ≡ true → (k : Header) → readHeader (headerLine h) ≡ accepted k → k .params ≡ []
+read-header-no-params h v k e =
+    let made : Bytes → Header = λ x. record { name = trim (h .name); value = x; params = [] } in
+    let rest = then-accepted (headerName (trim (h .name))) (_>>=_ (readValue (behindColon h)) (λ x. accepted (made x))) k (sym (read-header-line h v) ∙ e) in
+    let value = bind-accepted (readValue (behindColon h)) (λ x. accepted (made x)) k (rest .0) in
+    ap (λ (q : Header). q .params) (sym (accepted-same (made (value .0)) k (value .2)))
+
+-- a content line with a colon
+content-cut : (n v : Bytes) (st : Stores) (m : Message) → has colon n ≡ false
+    → readContentLine st (n ++ (colon ∷ (space ∷ v))) m ≡ readNamed (trim n) (trim v) st m
+unfolding readContentLine
+content-cut n v st m c =
+    rw (has-at colon n (space ∷ v), upTo-at colon n (space ∷ v) c, past-at colon n (space ∷ v) c, trim-space v) refl
+
+pub read-content-line : (e : Entry) (st : Stores) (m : Message) → validContent e ≡ true
+    → readContentLine st (contentLine e) m ≡ readNamed (trim (e .name)) (trim (e .value)) st m
+unfolding contentLine
+read-content-line e st m v = content-cut (e .name) (e .value) st m (name-colon (e .name) ((content-parts e v) .named))
+
+type-named : (v : Bytes) (st : Stores) (m : Message) → readNamed (trim (ascii "Content-type")) v st m ≡ readType v m
+unfolding readNamed sameLetters lower trimBy chars charsFrom trailIn matched dropFront dropBack isWhite wellFormed fits codePoint any texts
+type-named v st m = refl
+
+pub read-type-line : (t : Bytes) (st : Stores) (m : Message) → readContentLine st (typeLine t) m ≡ readType (trim t) m
+unfolding typeLine any
+read-type-line t st m = content-cut (ascii "Content-type") t st m refl ∙ type-named (trim t) st m
