@@ -7,7 +7,8 @@ use mathlib.Core.List.{List, [], _∷_, _++_}
 use mathlib.Core.Option.{Option, none, some}
 use lib.ListN.{length, drop}
 use Rattle.format.specs.Bytes.{Bytes, if_then_else_}
-use Rattle.format.specs.Refusals.{Out, accepted, refused, Numbers, numbers, row, nothingHeld}
+use Rattle.format.specs.Refusals.{Out, accepted, refused, numbers, row, nothingHeld}
+use Rattle.format.specs.declared.Numbers.{Numbers}
 use Rattle.format.specs.Message.{Message, need}
 use Rattle.format.specs.Calls.{
   Stores,

@@ -1,11 +1,12 @@
--- Document 01: the example of each row of the refusal table, and the limits at and one past; proved in proofs/Examples.antt. Assumes nothing.
+-- Document 01: the example of each row of the refusal table, and the limits at and one past; proved in proofs/Examples/Refusals.antt. Assumes nothing.
 use Prim.Native.Nat.{ℕ}
 use mathlib.Core.Path.{_≡_}
 use mathlib.Core.List.{List, [], _∷_, _++_}
 use mathlib.Core.Option.{Option, none, some}
 use lib.ListN.{length, replicate}
 use Rattle.format.specs.Bytes.{Bytes, ascii, texts}
-use Rattle.format.specs.Refusals.{Out, accepted, refused, Numbers, _carrying_, numbers, pass}
+use Rattle.format.specs.Refusals.{Out, accepted, refused, _carrying_, numbers, pass}
+use Rattle.format.specs.declared.Numbers.{Numbers}
 use Rattle.format.specs.Validators.{headerName, headerValue, contentValue, paramName, paramValue, contentType}
 use Rattle.format.specs.Message.{Entry, entry, Alone, Header, Message}
 use Rattle.format.specs.Calls.{Stores, fresh, new, addHeader, setHeader, addParam, setBody, answer, add-header, withParam}

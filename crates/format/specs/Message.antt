@@ -28,7 +28,7 @@ pub record Header : Type 0 where
   pub params : List Entry
 
 -- A message. The map from header name to a nonempty list of (value, parameter map) is one list here, by ascending name, the values of
--- one name in their order; it is determined by its lists for each name (proofs/Map.antt). The other maps are lists by ascending name.
+-- one name in their order; it is determined by its lists for each name (proofs/Messages/Map.antt). The other maps are lists by ascending name.
 -- Two messages are equal when these four are.
 pub record Message : Type 0 where
   pub headers : List Header

@@ -2,6 +2,7 @@
 use Prim.Native.Nat.{ℕ, _+_, _-_, _^_, min}
 use mathlib.Core.Bool.{Bool, true, false, not}
 use lib.Dec.{leb}
+use Rattle.format.specs.declared.Numbers.{Numbers}
 
 -- A refusal, by its condition; a number beside it is the actual length or count, or the bytes needed.
 pub data Refusal : Type 0 where
@@ -31,11 +32,6 @@ pub data Refusal : Type 0 where
   notUtf8 : Refusal
   noRoom : ℕ → Refusal
   tooShort : ℕ → Refusal
-
--- The numbers that a call answers with: the refusal's number (0 where it is accepted) and the carried number.
-pub record Numbers : Type 0 where
-  pub number : ℕ
-  pub carried : ℕ
 
 -- the carried number has 64 bits, the largest for more
 infix 50 _carrying_

@@ -1,5 +1,5 @@
 -- Document 01: the mistakes to expect, the order of checks where two faults meet, and worked examples of its rules and of Unicode
--- chapter 3; proved in proofs/Rules.antt. Assumes nothing.
+-- chapter 3; proved in proofs/Examples/Rules.antt. Assumes nothing.
 use Prim.Native.Nat.{ℕ}
 use mathlib.Core.Path.{_≡_}
 use mathlib.Core.List.{List, [], _∷_, _++_}
@@ -8,7 +8,8 @@ use lib.ListN.{length, replicate}
 use Rattle.format.specs.Bytes.{Bytes, ascii, texts}
 use Rattle.format.specs.Characters.{trim, replaced, replacement}
 use Rattle.format.specs.Escaping.{escape, unescape}
-use Rattle.format.specs.Refusals.{Out, accepted, refused, Numbers, _carrying_, numbers}
+use Rattle.format.specs.Refusals.{Out, accepted, refused, _carrying_, numbers}
+use Rattle.format.specs.declared.Numbers.{Numbers}
 use Rattle.format.specs.Message.{Entry, entry, Alone, Header, Message}
 use Rattle.format.specs.Calls.{
   Stores,

@@ -7,7 +7,8 @@ use lib.Dec.{ltb, leb}
 use lib.ListN.{length}
 use Rattle.format.specs.Bytes.{Bytes, ascii, if_then_else_, LF}
 use Rattle.format.specs.Escaping.{escape}
-use Rattle.format.specs.Refusals.{Out, accepted, refused, Numbers, numbers, tooShort}
+use Rattle.format.specs.Refusals.{Out, accepted, refused, numbers, tooShort}
+use Rattle.format.specs.declared.Numbers.{Numbers}
 use Rattle.format.specs.Message.{Message}
 use Rattle.format.specs.Calls.{Stores}
 use Rattle.format.specs.Reading.{read}

@@ -1,5 +1,12 @@
-// The records that stand for a message and a header in lent stores: numbers only. What they mean is in specs/Layout.antt.
-// This crate has no function of its own; its definitions are document 01.
+// The records that answers are made of, and those that stand for a message and a header in lent stores: numbers only.
+// What they mean is in specs/Refusals.antt and specs/Layout.antt. This crate has no function of its own; its definitions
+// are document 01.
+
+// What a call answers: the refusal's number, 0 where it is accepted, and the carried number.
+pub struct Numbers {
+    pub number: u64,
+    pub carried: u64,
+}
 
 // A message: length of its type; its headers and the bytes that they take in the head store; its content headers and
 // theirs; length of its body.

@@ -52,11 +52,11 @@ use Rattle.format.proofs.Steps.{accepted-same, then-accepted, bind-acce
 
 pub room-passes : (store n : ℕ) → passes (room store n) ≡ true → n ≤ store
 unfolding room
-room-passes store n h = ltb-false store n (refuseIf-passes (ltb store n) (noRoom n) h)
+room-passes store n h = ltb-false store n (refuseIf-passes _ _ h)
 
 pub space-passes : (store n : ℕ) → passes (Calls.space store n) ≡ true → n ≤ store
 unfolding Calls.space
-space-passes store n h = ltb-false store n (refuseIf-passes (ltb store n) (tooShort n) h)
+space-passes store n h = ltb-false store n (refuseIf-passes _ _ h)
 
 pub bodyLength-passes : (b : Bytes) → passes (bodyLength b) ≡ true → length b ≤ maxBody
 unfolding bodyLength

@@ -10,7 +10,8 @@ use lib.ListN.{length, take, drop, length-append, length-take, length-drop, leng
 use lib.Seq.{take-at, take-append-seam}
 use Rattle.format.specs.Bytes.{Bytes, all, total, texts}
 use Rattle.format.specs.Limits.{maxType}
-use Rattle.format.specs.Refusals.{typeTooLong, Out, accepted, refused, Numbers, passes}
+use Rattle.format.specs.Refusals.{typeTooLong, Out, accepted, refused, passes}
+use Rattle.format.specs.declared.Numbers.{Numbers}
 use Rattle.format.specs.Validators.{contentType}
 use Rattle.format.specs.Message.{Entry, Alone, Header, Message, needEntry, needAlone, needHeader, need, valid}
 use Rattle.format.specs.Calls.{
