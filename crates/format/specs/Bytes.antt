@@ -4,7 +4,7 @@ use Prim.Native.Nat.{ℕ, zero, suc, _+_, _-_}
 use mathlib.Core.Bool.{Bool, true, false, _&&_, _||_}
 use mathlib.Core.List.{List, [], _∷_, _++_}
 use lib.Dec.{leb, ltb, eqb}
-use lib.ListN.{length}
+use lib.ListN.{length, take, drop}
 use Prim.Native.Char.{code}
 use Prim.Native.String.{String}
 use Prim.Native.String as text
@@ -168,3 +168,7 @@ split sep t = splitFrom 0 sep t
 unfoldable pub join : Bytes → List Bytes → Bytes
 join sep [] = []
 join sep (p ∷ ps) = p ++ texts (λ q. sep ++ q) ps
+
+-- s over the bytes of d from the place at on; all others as they were
+unfoldable pub pasted : ℕ → Bytes → Bytes → Bytes
+pasted at s d = take at d ++ (s ++ drop (at + length s) d)
