@@ -30,7 +30,7 @@ use Rattle.format.specs.Refusals.{
   _>>=_,
 }
 use Rattle.format.specs.Validators.{headerName, headerValue, contentValue, paramName, paramValue, contentType, utf8}
-use Rattle.format.specs.Message.{Entry, entry, entryName, Alone, Header, nameOf, named, Message, insert, without, put, need, needAlone}
+use Rattle.format.specs.Message.{Entry, entry, entryName, LoneHeader, Header, nameOf, named, Message, insert, without, put, need, needAlone}
 
 -- The lengths of the stores lent to a call.
 pub record Stores : Type 0 where
@@ -42,8 +42,8 @@ unfoldable pub room : ℕ → ℕ → Check
 room store n = refuseIf (ltb store n) (noRoom n)
 
 -- 26: the body store or the output is shorter than what it is to hold
-unfoldable pub space : ℕ → ℕ → Check
-space store n = refuseIf (ltb store n) (tooShort n)
+unfoldable pub enough : ℕ → ℕ → Check
+enough store n = refuseIf (ltb store n) (tooShort n)
 
 -- 23
 unfoldable pub bodyLength : Bytes → Check
@@ -88,14 +88,14 @@ new t b stores = do
   contentType t
   bodyLength b
   room (stores .head) (need (fresh t b))
-  space (stores .body) (length b)
+  enough (stores .body) (length b)
   accepted (fresh t b)
 
 -- `set_body`: 23, 26
 unfoldable pub setBody : Bytes → Stores → Message → Out Message
 setBody b stores m = do
   bodyLength b
-  space (stores .body) (length b)
+  enough (stores .body) (length b)
   accepted (withBody m b)
 
 -- `set_header`: name, 20 counted without what it replaces, value; it replaces every value
@@ -113,7 +113,7 @@ append h stores m = do
   ifRoom (stores .head) (withHeaders m (insert nameOf h (m .headers)))
 
 -- `add_header_obj`: name, 20; it appends
-unfoldable pub addHeaderObj : Bytes → Alone → Stores → Message → Out Message
+unfoldable pub addHeaderObj : Bytes → LoneHeader → Stores → Message → Out Message
 addHeaderObj n h stores m = do
   headerName n
   append (named n h) stores m
@@ -133,7 +133,7 @@ addContentHeader n v stores m = do
   ifRoom (stores .head) (withContents m (put (entry n v) (m .contents)))
 
 -- `CpimHeader::new` without a store: value
-unfoldable pub aloneOf : Bytes → Out Alone
+unfoldable pub aloneOf : Bytes → Out LoneHeader
 aloneOf v = do
   headerValue v
   accepted (record { value = v; params = [] })
@@ -147,26 +147,26 @@ setParam n v ps = do
   accepted (put (entry n v) ps)
 
 -- `with_param` without a store
-unfoldable pub addParam : Bytes → Bytes → Alone → Out Alone
+unfoldable pub addParam : Bytes → Bytes → LoneHeader → Out LoneHeader
 addParam n v h = do
   ps ← setParam n v (h .params)
   accepted (record { value = h .value; params = ps })
 
 -- accepted if the header store has room for the header: 25, last
-unfoldable pub ifRoomAlone : ℕ → Alone → Out Alone
+unfoldable pub ifRoomAlone : ℕ → LoneHeader → Out LoneHeader
 ifRoomAlone store h = do
   room store (needAlone h)
   accepted h
 
 -- `CpimHeader::new`, with the length of the header store
-unfoldable pub newHeader : Bytes → ℕ → Out Alone
+unfoldable pub newHeader : Bytes → ℕ → Out LoneHeader
 newHeader v store = do
   utf8 v
   h ← aloneOf v
   ifRoomAlone store h
 
 -- `with_param`, on what the header store holds
-unfoldable pub withParam : Bytes → Bytes → ℕ → Option Alone → Out Alone
+unfoldable pub withParam : Bytes → Bytes → ℕ → Option LoneHeader → Out LoneHeader
 withParam n v store none = refused nothingHeld
 withParam n v store (some h) = do
   utf8 n
@@ -179,7 +179,7 @@ pub data Call : Type 0 where
   set-body : Bytes → Call
   set-header : Bytes → Bytes → Call
   add-header : Bytes → Bytes → Call
-  add-header-obj : Bytes → Option Alone → Call
+  add-header-obj : Bytes → Option LoneHeader → Call
   add-content-header : Bytes → Bytes → Call
   with-from : Bytes → Call
   with-to : Bytes → Call

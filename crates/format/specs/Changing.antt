@@ -7,7 +7,7 @@ use mathlib.Core.List.{List, [], _∷_, _++_}
 use mathlib.Core.Option.{Option, none, some}
 use lib.ListN.{length, drop}
 use Rattle.format.specs.Bytes.{Bytes, if_then_else_}
-use Rattle.format.specs.Refusals.{Out, accepted, refused, numbers, row, nothingHeld}
+use Rattle.format.specs.Refusals.{Out, accepted, refused, numbers, table, nothingHeld}
 use Rattle.format.specs.declared.Numbers.{Numbers}
 use Rattle.format.specs.Message.{Message, need}
 use Rattle.format.specs.Calls.{
@@ -63,7 +63,7 @@ pub record Changed (c : Call) (before after : Lent) (n : Numbers) : Type 0 where
   pub held : (m : Message) →
       Holds before m →
       (n ≡ numbers (answer c (lengths before) (some m))) × (after ≡ leaves before (answer c (lengths before) (some m)))
-  pub nothing : ((m : Message) → Holds before m → ⊥) → (n ≡ row nothingHeld) × (after ≡ before)
+  pub nothing : ((m : Message) → Holds before m → ⊥) → (n ≡ table nothingHeld) × (after ≡ before)
 
 -- The record and both stores between two calls.
 pub record State : Type 0 where

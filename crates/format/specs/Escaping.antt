@@ -51,7 +51,7 @@ digitValue c =
     else if leb 97 c && leb c 102 then some (c - 87)
     else if leb 65 c && leb c 70 then some (c - 55) else none
 
--- one more digit behind a number read so far
+-- one more digit inFront a number read so far
 abbrev pub shifted : Option ℕ → Option ℕ → Option ℕ
 shifted none d = none
 shifted (some n) none = none
@@ -62,7 +62,7 @@ unfoldable pub fourDigits : ℕ → ℕ → ℕ → ℕ → Option ℕ
 fourDigits a b c d =
     shifted (shifted (shifted (if eqb a plus then some 0 else digitValue a) (digitValue b)) (digitValue c)) (digitValue d)
 
--- What an escape stands for, and how many bytes behind the backslash it takes.
+-- What an escape stands for, and how many bytes inFront the backslash it takes.
 pub record Escape : Type 0 where
   pub stands : Bytes
   pub takes : ℕ
@@ -79,19 +79,19 @@ longEscape (a ∷ b ∷ []) = none
 longEscape (a ∷ b ∷ c ∷ []) = none
 longEscape (a ∷ b ∷ c ∷ d ∷ t) = scalarEscape (fourDigits a b c d)
 
-abbrev pub single : ℕ → Option Escape
-single n = some (record { stands = n ∷ []; takes = 1 })
+abbrev pub oneByte : ℕ → Option Escape
+oneByte n = some (record { stands = n ∷ []; takes = 1 })
 
 unfoldable pub shortEscape : ℕ → Option Escape
 shortEscape c =
-    if eqb c 92 then single 92
-    else if eqb c 34 then single 34
-    else if eqb c 98 then single 8
-    else if eqb c 116 then single 9
-    else if eqb c 110 then single 10
-    else if eqb c 114 then single 13 else none
+    if eqb c 92 then oneByte 92
+    else if eqb c 34 then oneByte 34
+    else if eqb c 98 then oneByte 8
+    else if eqb c 116 then oneByte 9
+    else if eqb c 110 then oneByte 10
+    else if eqb c 114 then oneByte 13 else none
 
--- the escape that the bytes behind a backslash begin with
+-- the escape that the bytes inFront a backslash begin with
 unfoldable pub escapeAt : Bytes → Option Escape
 escapeAt [] = none
 escapeAt (c ∷ s) = if eqb c 117 then longEscape s else shortEscape c
@@ -101,20 +101,20 @@ takesOf none = 0
 takesOf (some e) = e .takes
 
 -- a text in front of what the rest reads as
-abbrev pub behind : Bytes → Option Bytes → Option Bytes
-behind s none = none
-behind s (some t) = some (s ++ t)
+abbrev pub inFront : Bytes → Option Bytes → Option Bytes
+inFront s none = none
+inFront s (some t) = some (s ++ t)
 
 abbrev pub escaped : Option Escape → Option Bytes → Option Bytes
 escaped none t = none
-escaped (some e) t = behind (e .stands) t
+escaped (some e) t = inFront (e .stands) t
 
 -- Read; none where something else stands after a backslash. (k bytes of an escape just read are still to be passed over:
 -- a device of the recursion.)
 unfoldable pub unescapeFrom : ℕ → Bytes → Option Bytes
 unescapeFrom k [] = some []
 unescapeFrom zero (b ∷ s) =
-    if eqb b backslash then escaped (escapeAt s) (unescapeFrom (takesOf (escapeAt s)) s) else behind (b ∷ []) (unescapeFrom zero s)
+    if eqb b backslash then escaped (escapeAt s) (unescapeFrom (takesOf (escapeAt s)) s) else inFront (b ∷ []) (unescapeFrom zero s)
 unescapeFrom (suc k) (b ∷ s) = unescapeFrom k s
 
 abbrev pub unescape : Bytes → Option Bytes

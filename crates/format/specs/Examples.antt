@@ -8,7 +8,7 @@ use Rattle.format.specs.Bytes.{Bytes, ascii, texts}
 use Rattle.format.specs.Refusals.{Out, accepted, refused, _carrying_, numbers, pass}
 use Rattle.format.specs.declared.Numbers.{Numbers}
 use Rattle.format.specs.Validators.{headerName, headerValue, contentValue, paramName, paramValue, contentType}
-use Rattle.format.specs.Message.{Entry, entry, Alone, Header, Message}
+use Rattle.format.specs.Message.{Entry, entry, LoneHeader, Header, Message}
 use Rattle.format.specs.Calls.{Stores, fresh, new, addHeader, setHeader, addParam, setBody, answer, add-header, withParam}
 use Rattle.format.specs.Writing.{toText}
 use Rattle.format.specs.Reading.{read}
@@ -37,7 +37,7 @@ headersOf n =
       body = [];
     }
 
-abbrev pub paramsOf : Bytes → Alone
+abbrev pub paramsOf : Bytes → LoneHeader
 paramsOf names = record { value = []; params = named names }
   where
     named : Bytes → List Entry
@@ -78,7 +78,7 @@ pub record RefusalExamples : Type 0 where
   pub unheld : numbers (answer (add-header (255 ∷ []) []) roomy none) ≡ 25 carrying 0
 
 -- at the limit, and one past it
-pub record Limits : Type 0 where
+pub record AtLimits : Type 0 where
   pub name : (headerName (letters 128) ≡ pass) × (numbers (headerName (letters 129)) ≡ 7 carrying 129)
   pub value : (headerValue (letters 1024) ≡ pass) × (numbers (headerValue (letters 1025)) ≡ 10 carrying 1025)
   pub content : (contentValue (letters 1024) ≡ pass) × (numbers (contentValue (letters 1025)) ≡ 10 carrying 1025)

@@ -8,7 +8,7 @@ use mathlib.Core.List.{List, [], _∷_, _++_}
 use mathlib.Core.Option.{Option, none, some}
 use lib.ListN.{length, take, replicate}
 use Rattle.format.specs.Bytes.{Bytes, texts, total}
-use Rattle.format.specs.Message.{Entry, Alone, Header, Message, needEntry, needHeader, need, needAlone, valid, validAlone}
+use Rattle.format.specs.Message.{Entry, LoneHeader, Header, Message, needEntry, needHeader, need, needAlone, valid, validAlone}
 use Rattle.format.specs.declared.CpimMessage.{CpimMessage}
 use Rattle.format.specs.declared.CpimHeader.{CpimHeader}
 
@@ -43,10 +43,10 @@ recordOf m =
     }
 
 -- a header alone: 16 zeros, the value, the parameters
-unfoldable pub layoutAlone : Alone → Bytes
+unfoldable pub layoutAlone : LoneHeader → Bytes
 layoutAlone h = replicate 16 0 ++ (h .value ++ texts layoutEntry (h .params))
 
-unfoldable pub headerOf : Alone → CpimHeader
+unfoldable pub headerOf : LoneHeader → CpimHeader
 headerOf h = record { valuelen = length (h .value); params = length (h .params); paramlen = total needEntry (h .params) }
 
 -- no type, no entry, body length 0: the empty record, which holds nothing
@@ -75,7 +75,7 @@ pub record Holds (l : Lent) (m : Message) : Type 0 where
   pub stored : BodyAt (l .body) (m .body)
 
 -- Record and store hold the header h alone.
-pub record HoldsAlone (r : CpimHeader) (store : Bytes) (h : Alone) : Type 0 where
+pub record HoldsAlone (r : CpimHeader) (store : Bytes) (h : LoneHeader) : Type 0 where
   pub within : validAlone h ≡ true
   pub recorded : r ≡ headerOf h
   pub laid : take (needAlone h) store ≡ layoutAlone h

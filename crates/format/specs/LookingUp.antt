@@ -10,8 +10,8 @@ use Rattle.format.specs.Characters.{isUtf8}
 use Rattle.format.specs.Limits.{maxText}
 use Rattle.format.specs.Refusals.{textTooLong, tooFewSections, Out, accepted, refused, Check, pass, atMost, _>>_, _>>=_}
 use Rattle.format.specs.Validators.{utf8}
-use Rattle.format.specs.Message.{Entry, Alone, Header, nameOf, Message, only}
-use Rattle.format.specs.Calls.{space, bodyLength}
+use Rattle.format.specs.Message.{Entry, LoneHeader, Header, nameOf, Message, only}
+use Rattle.format.specs.Calls.{enough, bodyLength}
 use Rattle.format.specs.Reading.{sections, bodyOf}
 
 module _ {A : Type 0} where
@@ -61,10 +61,10 @@ unfoldable pub getContent : Option Message → ℕ → Option Entry
 getContent held n = ofHeld held (λ m. nth n (m .contents))
 
 -- of a header alone: its value and its n-th parameter in map order
-unfoldable pub aloneValue : Option Alone → Option Bytes
+unfoldable pub aloneValue : Option LoneHeader → Option Bytes
 aloneValue held = mapped (λ h. h .value) held
 
-unfoldable pub aloneParam : Option Alone → ℕ → Option Entry
+unfoldable pub aloneParam : Option LoneHeader → ℕ → Option Entry
 aloneParam held n = ofHeld held (λ h. nth n (h .params))
 
 -- how many headers, parameters of all headers, and content headers are held
@@ -90,20 +90,20 @@ closed s = if has greater-sign s then some (upTo greater-sign s) else none
 unfoldable pub address : Bytes → Option Bytes
 address v = if has less-sign v then closed (past less-sign v) else none
 
--- Body without a store. The sections from the fourth, joined: 2 where there are none.
-unfoldable pub fourth : List Bytes → Out Bytes
-fourth [] = refused tooFewSections
-fourth (a ∷ []) = refused tooFewSections
-fourth (a ∷ b ∷ []) = refused tooFewSections
-fourth (a ∷ b ∷ c ∷ []) = refused tooFewSections
-fourth (a ∷ b ∷ c ∷ d ∷ rest) = accepted (bodyOf (d ∷ rest))
+-- Body without a store. The sections from the bodyOfSections, joined: 2 where there are none.
+unfoldable pub bodyOfSections : List Bytes → Out Bytes
+bodyOfSections [] = refused tooFewSections
+bodyOfSections (a ∷ []) = refused tooFewSections
+bodyOfSections (a ∷ b ∷ []) = refused tooFewSections
+bodyOfSections (a ∷ b ∷ c ∷ []) = refused tooFewSections
+bodyOfSections (a ∷ b ∷ c ∷ d ∷ rest) = accepted (bodyOf (d ∷ rest))
 
 -- the body of a text: 1, 24, 2, 23
 unfoldable pub bodyOfText : Bytes → Out Bytes
 bodyOfText t = do
   atMost maxText textTooLong (length t)
   utf8 t
-  b ← fourth (sections t)
+  b ← bodyOfSections (sections t)
   bodyLength b
   accepted b
 
@@ -114,7 +114,7 @@ inText t = occurs CRLFCRLF t
 -- 26 under LFLF only
 unfoldable pub bufferFor : Bool → ℕ → ℕ → Check
 bufferFor true buffer n = pass
-bufferFor false buffer n = space buffer n
+bufferFor false buffer n = enough buffer n
 
 -- The first call refuses by 1, 24, 2, 23, 26, else gives the body, whose length it answers.
 unfoldable pub findBody : Bytes → ℕ → Out Bytes

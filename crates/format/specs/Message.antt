@@ -17,7 +17,7 @@ pub record Entry : Type 0 where
   pub value : Bytes
 
 -- A header alone (the source's CpimHeader): a value and its parameter map.
-pub record Alone : Type 0 where
+pub record LoneHeader : Type 0 where
   pub value : Bytes
   pub params : List Entry
 
@@ -39,10 +39,10 @@ pub record Message : Type 0 where
 abbrev pub entry : Bytes → Bytes → Entry
 entry n v = record { name = n; value = v }
 
-abbrev pub named : Bytes → Alone → Header
+abbrev pub named : Bytes → LoneHeader → Header
 named n h = record { name = n; value = h .value; params = h .params }
 
-abbrev pub alone : Header → Alone
+abbrev pub alone : Header → LoneHeader
 alone h = record { value = h .value; params = h .params }
 
 abbrev pub entryName : Entry → Bytes
@@ -53,7 +53,7 @@ nameOf h = h .name
 
 -- Maps run in byte order of their names: lists of elements with a key.
 module _ {A : Type 0} (key : A → Bytes) where
-  -- x behind all that do not come after it
+  -- x inFront all that do not come after it
   unfoldable pub insert : A → List A → List A
   insert x [] = x ∷ []
   insert x (y ∷ ys) = if before (key x) (key y) then x ∷ y ∷ ys else y ∷ insert x ys
@@ -86,7 +86,7 @@ put e es = insert entryName e (without entryName (e .name) es)
 unfoldable pub validParam : Entry → Bool
 validParam e = passes (paramName (e .name)) && (passes (paramValue (e .value)) && (isUtf8 (e .name) && isUtf8 (e .value)))
 
-unfoldable pub validAlone : Alone → Bool
+unfoldable pub validAlone : LoneHeader → Bool
 validAlone h =
     passes (headerValue (h .value))
     && (isUtf8 (h .value) && (all validParam (h .params) && (increasing entryName (h .params) && leb (length (h .params)) maxParams)))
@@ -114,7 +114,7 @@ unfoldable pub needEntry : Entry → ℕ
 needEntry e = 16 + (length (e .name) + length (e .value))
 
 -- a header built alone: 16 + value plus its parameters
-unfoldable pub needAlone : Alone → ℕ
+unfoldable pub needAlone : LoneHeader → ℕ
 needAlone h = 16 + (length (h .value) + total needEntry (h .params))
 
 -- 16 + name + value for a header, and its parameters

@@ -119,7 +119,7 @@ blank = fresh (ascii "text/plain") []
 unfoldable pub saysCpim : Bytes → Bool
 saysCpim s = occurs (ascii "message/cpim") (map lower s)
 
--- the sections from the fourth, joined by CRLFCRLF even for LFLF texts
+-- the sections from the bodyOfSections, joined by CRLFCRLF even for LFLF texts
 unfoldable pub bodyOf : List Bytes → Bytes
 bodyOf ss = join CRLFCRLF ss
 

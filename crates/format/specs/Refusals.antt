@@ -39,33 +39,33 @@ abbrev pub _carrying_ : ℕ → ℕ → Numbers
 k carrying n = record { number = k; carried = min n (2 ^ 64 - 1) }
 
 -- The table. `noRoom` is the head or header store too short, carrying 0 where nothing valid is held; `tooShort` is the body store or the output.
-unfoldable pub row : Refusal → Numbers
-row (textTooLong n) = 1 carrying n
-row tooFewSections = 2 carrying 0
-row noMessageCpim = 3 carrying 0
-row lacksColon = 4 carrying 0
-row badEscape = 5 carrying 0
-row nameEmpty = 6 carrying 0
-row (nameTooLong n) = 7 carrying n
-row nameControl = 8 carrying 0
-row nameReserved = 9 carrying 0
-row (valueTooLong n) = 10 carrying n
-row contentControl = 11 carrying 0
-row paramNameEmpty = 12 carrying 0
-row (paramNameTooLong n) = 13 carrying n
-row paramNameReserved = 14 carrying 0
-row (paramValueTooLong n) = 15 carrying n
-row paramValueReserved = 16 carrying 0
-row typeEmpty = 17 carrying 0
-row (typeTooLong n) = 18 carrying n
-row typeControl = 19 carrying 0
-row (tooManyHeaders n) = 20 carrying n
-row (tooManyParams n) = 21 carrying n
-row (tooManyContents n) = 22 carrying n
-row (bodyTooLong n) = 23 carrying n
-row notUtf8 = 24 carrying 0
-row (noRoom n) = 25 carrying n
-row (tooShort n) = 26 carrying n
+unfoldable pub table : Refusal → Numbers
+table (textTooLong n) = 1 carrying n
+table tooFewSections = 2 carrying 0
+table noMessageCpim = 3 carrying 0
+table lacksColon = 4 carrying 0
+table badEscape = 5 carrying 0
+table nameEmpty = 6 carrying 0
+table (nameTooLong n) = 7 carrying n
+table nameControl = 8 carrying 0
+table nameReserved = 9 carrying 0
+table (valueTooLong n) = 10 carrying n
+table contentControl = 11 carrying 0
+table paramNameEmpty = 12 carrying 0
+table (paramNameTooLong n) = 13 carrying n
+table paramNameReserved = 14 carrying 0
+table (paramValueTooLong n) = 15 carrying n
+table paramValueReserved = 16 carrying 0
+table typeEmpty = 17 carrying 0
+table (typeTooLong n) = 18 carrying n
+table typeControl = 19 carrying 0
+table (tooManyHeaders n) = 20 carrying n
+table (tooManyParams n) = 21 carrying n
+table (tooManyContents n) = 22 carrying n
+table (bodyTooLong n) = 23 carrying n
+table notUtf8 = 24 carrying 0
+table (noRoom n) = 25 carrying n
+table (tooShort n) = 26 carrying n
 
 -- 25 carrying 0
 abbrev pub nothingHeld : Refusal
@@ -78,7 +78,7 @@ pub data Out (A : Type 0) : Type 0 where
 
 unfoldable pub numbers : {A : Type 0} → Out A → Numbers
 numbers (accepted a) = 0 carrying 0
-numbers (refused r) = row r
+numbers (refused r) = table r
 
 -- A check passes with nothing to say.
 abbrev pub Check : Type 0

@@ -10,7 +10,7 @@ use Rattle.format.specs.Characters.{trim, replaced, replacement}
 use Rattle.format.specs.Escaping.{escape, unescape}
 use Rattle.format.specs.Refusals.{Out, accepted, refused, _carrying_, numbers}
 use Rattle.format.specs.declared.Numbers.{Numbers}
-use Rattle.format.specs.Message.{Entry, entry, Alone, Header, Message}
+use Rattle.format.specs.Message.{Entry, entry, LoneHeader, Header, Message}
 use Rattle.format.specs.Calls.{
   Stores,
   new,

@@ -34,16 +34,16 @@ isEmpty [] = true
 isEmpty (b ∷ s) = false
 
 -- one of `: ; = \ "`
-unfoldable pub inName : ℕ → Bool
-inName b = has b (ascii ":;=\\\"")
+unfoldable pub reservedInName : ℕ → Bool
+reservedInName b = has b (ascii ":;=\\\"")
 
 -- ASCII control or one of `; = \ "`
-unfoldable pub inParamName : ℕ → Bool
-inParamName b = isAsciiControl b || has b (ascii ";=\\\"")
+unfoldable pub reservedInParamName : ℕ → Bool
+reservedInParamName b = isAsciiControl b || has b (ascii ";=\\\"")
 
 -- ASCII control or one of `; \ "`
-unfoldable pub inParamValue : ℕ → Bool
-inParamValue b = isAsciiControl b || has b (ascii ";\\\"")
+unfoldable pub reservedInParamValue : ℕ → Bool
+reservedInParamValue b = isAsciiControl b || has b (ascii ";\\\"")
 
 -- Header name: 6, 7, 8, 9 in that order.
 unfoldable pub headerName : Bytes → Check
@@ -51,7 +51,7 @@ headerName s = do
   refuseIf (isEmpty s) nameEmpty
   atMost maxName nameTooLong (length s)
   refuseIf (any isAsciiControl s) nameControl
-  refuseIf (any inName s) nameReserved
+  refuseIf (any reservedInName s) nameReserved
 
 -- Header value: 10 only.
 unfoldable pub headerValue : Bytes → Check
@@ -68,13 +68,13 @@ unfoldable pub paramName : Bytes → Check
 paramName s = do
   refuseIf (isEmpty s) paramNameEmpty
   atMost maxParamName paramNameTooLong (length s)
-  refuseIf (any inParamName s) paramNameReserved
+  refuseIf (any reservedInParamName s) paramNameReserved
 
 -- Parameter value: 15, 16, and it may be empty.
 unfoldable pub paramValue : Bytes → Check
 paramValue s = do
   atMost maxParamValue paramValueTooLong (length s)
-  refuseIf (any inParamValue s) paramValueReserved
+  refuseIf (any reservedInParamValue s) paramValueReserved
 
 -- Content type: 17, 18, 19.
 unfoldable pub contentType : Bytes → Check

@@ -8,7 +8,7 @@ use Rattle.format.specs.Characters.{replaced}
 use Rattle.format.specs.Escaping.{escape}
 use Rattle.format.specs.Refusals.{Out, accepted, refused, nothingHeld, _>>_}
 use Rattle.format.specs.Message.{Entry, Header, Message}
-use Rattle.format.specs.Calls.{space}
+use Rattle.format.specs.Calls.{enough}
 
 -- `;` name `=` value
 unfoldable pub paramText : Entry → Bytes
@@ -43,5 +43,5 @@ write m =
 unfoldable pub toText : Option Message → ℕ → Out Bytes
 toText none output = refused nothingHeld
 toText (some m) output = do
-  space output (length (write m))
+  enough output (length (write m))
   accepted (write m)

@@ -12,7 +12,7 @@ use lib.ListN.{length, length-append}
 use borrow.Author.Tests.{eqb-true, leb-true, ltb-true, ltb-false, ne-eqb, le-leb, lt-leb, lt-ltb}
 use Rattle.format.specs.Bytes.{Bytes, if_then_else_, all, any, texts, backslash, plus}
 use Rattle.format.specs.Characters.{chars, trailIn, fits, wellFormed, isUtf8, flat, within, _to_, codePoint, encoding, isScalar, isWhite, isControl, isControlCode, isLost}
-use Rattle.format.specs.Escaping.{digit, unicodeEscape, shortForm, longForm, shortOr, escapeChar, escape, digitValue, fourDigits, scalarEscape, longEscape, single, shortEscape, escapeAt, behind, unescapeFrom, unescape}
+use Rattle.format.specs.Escaping.{digit, unicodeEscape, shortForm, longForm, shortOr, escapeChar, escape, digitValue, fourDigits, scalarEscape, longEscape, oneByte, shortEscape, escapeAt, inFront, unescapeFrom, unescape}
 use Rattle.format.proofs.Lists.{bcase, clash, and-left, and-right, and-intro, or-false-left, all-head, all-tail, all-map, all-texts}
 use Rattle.format.proofs.Characters.Chars.{flat-chars, utf8-whole, utf8-texts, utf8-ascii-text, whole-high}
 use Rattle.format.proofs.Escaping.Unescape.{branch, nothing, plain, plain-read, whole-plain}
@@ -27,7 +27,7 @@ visible-intro c h k = and-intro (leb 33 c) (leb c 126) (le-leb 33 c h) (le-leb c
 
 -- What holds of a character that has a short form.
 record Short (b c : ℕ) : Type 0 where
-  reads : (s : Bytes) → escapeAt (c ∷ s) ≡ single b
+  reads : (s : Bytes) → escapeAt (c ∷ s) ≡ oneByte b
   shown : visible c ≡ true
   kept : isLost (b ∷ []) ≡ false
 
@@ -97,7 +97,7 @@ four-read n l =
     )
     (ap some (four-number n l))
 
-unicode-read : (n : ℕ) (s : Bytes) → n < 65536 → isScalar n ≡ true → unescape (unicodeEscape n ++ s) ≡ behind (encoding n) (unescape s)
+unicode-read : (n : ℕ) (s : Bytes) → n < 65536 → isScalar n ≡ true → unescape (unicodeEscape n ++ s) ≡ inFront (encoding n) (unescape s)
 unfolding unicodeEscape unescapeFrom escapeAt longEscape scalarEscape
 unicode-read n s l h = rw (four-read n l, h) refl
 
@@ -127,7 +127,7 @@ pub data Written (g : Bytes) : Type 0 where
       → escapeChar g ≡ b ∷ t
       → all visible (b ∷ t) ≡ true
       → isLost g ≡ false
-      → ((s : Bytes) → unescape (b ∷ t ++ s) ≡ behind g (unescape s))
+      → ((s : Bytes) → unescape (b ∷ t ++ s) ≡ inFront g (unescape s))
       → Written g
 
 long-written : (g : Bytes) → wellFormed g ≡ true → plain g ≡ true → escapeChar g ≡ longForm g → Written g
@@ -137,7 +137,7 @@ long-written g w p e = ⊎-elim control (λ t. bare (e ∙ rw t refl) t p) (bcas
     control : isControl g ≡ true → Written g
     control t =
         coded backslash _ (e ∙ ap (λ (c : Bool). if c then unicodeEscape (codePoint g) else g) t) (unicode-visible (codePoint g)) (control-kept g t)
-        (λ s. unicode-read (codePoint g) s (control-code g t) (whole-scalar g w) ∙ ap (λ (c : Bytes). behind c (unescape s)) (encoding-codePoint g w))
+        (λ s. unicode-read (codePoint g) s (control-code g t) (whole-scalar g w) ∙ ap (λ (c : Bytes). inFront c (unescape s)) (encoding-codePoint g w))
 
 short-written : (b : ℕ) (o : Option ℕ) → shortForm b ≡ o → wellFormed (b ∷ []) ≡ true → Written (b ∷ [])
 unfolding escapeChar all unescapeFrom
@@ -155,12 +155,12 @@ written (b ∷ c ∷ t) w =
     long-written (b ∷ c ∷ t) w
     (whole-plain b (c ∷ t) w (ne-eqb b backslash (λ e. omega (arith, leb-true 128 b (all-head (leb 128) b (c ∷ t) (whole-high b c t w)))))) refl
 
-char-read : (g s : Bytes) → Written g → unescape (escapeChar g ++ s) ≡ behind g (unescape s)
+char-read : (g s : Bytes) → Written g → unescape (escapeChar g ++ s) ≡ inFront g (unescape s)
 char-read g s (bare e c p) = rw e (plain-read g s p)
 char-read g s (coded b t e a k r) = rw e (r s)
 
 -- one character that is written reads back
-pub escape-char-read : (g s : Bytes) → wellFormed g ≡ true → unescape (escapeChar g ++ s) ≡ behind g (unescape s)
+pub escape-char-read : (g s : Bytes) → wellFormed g ≡ true → unescape (escapeChar g ++ s) ≡ inFront g (unescape s)
 escape-char-read g s w = char-read g s (written g w)
 
 -- characters that are written read back
@@ -168,7 +168,7 @@ pub unescape-texts : (gs : List Bytes) → all wellFormed gs ≡ true → unesca
 unfolding texts unescapeFrom
 unescape-texts [] w = refl
 unescape-texts (g ∷ gs) w =
-    escape-char-read g (texts escapeChar gs) (all-head wellFormed g gs w) ∙ ap (behind g) (unescape-texts gs (all-tail wellFormed g gs w))
+    escape-char-read g (texts escapeChar gs) (all-head wellFormed g gs w) ∙ ap (inFront g) (unescape-texts gs (all-tail wellFormed g gs w))
 
 -- what is written reads back
 pub unescape-escape : (v : Bytes) → isUtf8 v ≡ true → unescape (escape v) ≡ some v

@@ -12,7 +12,7 @@ use lib.ListN.{length, take, drop, length-append, length-drop, take-append-drop}
 use borrow.Author.Tests.{eqb-true, leb-true, ne-eqb, not-true}
 use Rattle.format.specs.Bytes.{Bytes, if_then_else_, all, backslash, plus}
 use Rattle.format.specs.Characters.{wellFormed, isUtf8, trailing, encoding, isScalar}
-use Rattle.format.specs.Escaping.{digitValue, shifted, fourDigits, Escape, scalarEscape, longEscape, single, shortEscape, escapeAt, takesOf, behind, escaped, unescapeFrom, unescape}
+use Rattle.format.specs.Escaping.{digitValue, shifted, fourDigits, Escape, scalarEscape, longEscape, oneByte, shortEscape, escapeAt, takesOf, inFront, escaped, unescapeFrom, unescape}
 use Rattle.format.proofs.Lists.{bcase, and-left, and-right, all-head, all-tail, all-map}
 use Rattle.format.proofs.Characters.Chars.{chars-cons, utf8-whole, utf8-append, utf8-ascii, ascii-whole, whole-high}
 use Rattle.format.proofs.Characters.Scalars.{encoding-whole}
@@ -24,20 +24,20 @@ unescape-skip zero s = refl
 unescape-skip (suc k) [] = refl
 unescape-skip (suc k) (b ∷ s) = unescape-skip k s
 
--- what stands behind a text that was read has been read
-pub behind-some : (s : Bytes) (o : Option Bytes) (v : Bytes) → behind s o ≡ some v → (w : Bytes) × (o ≡ some w) × (v ≡ s ++ w)
+-- what stands inFront a text that was read has been read
+pub behind-some : (s : Bytes) (o : Option Bytes) (v : Bytes) → inFront s o ≡ some v → (w : Bytes) × (o ≡ some w) × (v ≡ s ++ w)
 behind-some s none v h = absurd (let z : _≡_ {A = ℕ} 0 1 = cc in omega arith)
 behind-some s (some w) v h = (w, refl, cc)
 
-pub behind-nil : (o : Option Bytes) → behind [] o ≡ o
+pub behind-nil : (o : Option Bytes) → inFront [] o ≡ o
 behind-nil none = refl
 behind-nil (some t) = refl
 
-pub behind-behind : (s t : Bytes) (o : Option Bytes) → behind s (behind t o) ≡ behind (s ++ t) o
+pub behind-behind : (s t : Bytes) (o : Option Bytes) → inFront s (inFront t o) ≡ inFront (s ++ t) o
 behind-behind s t none = refl
 behind-behind s t (some u) = rw append-assoc refl
 
-escaped-some : (o : Option Escape) (t : Option Bytes) (v : Bytes) → escaped o t ≡ some v → (e : Escape) × (o ≡ some e) × (behind (e .stands) t ≡ some v)
+escaped-some : (o : Option Escape) (t : Option Bytes) (v : Bytes) → escaped o t ≡ some v → (e : Escape) × (o ≡ some e) × (inFront (e .stands) t ≡ some v)
 escaped-some none t v h = absurd (let z : _≡_ {A = ℕ} 0 1 = cc in omega arith)
 escaped-some (some e) t v h = (e, refl, h)
 
@@ -79,7 +79,7 @@ four-ascii a b c d n h =
     let z = shifted-some _ (digitValue b) (y .0) (y .2) in
     (first-ascii a (z .0) (z .2), digit-ascii b (z .1) (z .3), digit-ascii c (y .1) (y .3), digit-ascii d (x .1) (x .3))
 
--- What holds of an escape that the bytes s behind a backslash begin with.
+-- What holds of an escape that the bytes s inFront a backslash begin with.
 record Sound (s : Bytes) (e : Escape) : Type 0 where
   whole : wellFormed (e .stands) ≡ true
   rest : isUtf8 s ≡ true → isUtf8 (drop (e .takes) s) ≡ true
@@ -118,7 +118,7 @@ long-sound u a b c d s e l h = go (fourDigits a b c d) refl h
         branch (isScalar n) _ _ e
         (λ i q. let z : _≡_ {A = Escape} (record { stands = encoding n; takes = 5 }) e = cc in rw z at (at n f i)) (nothing e) h
 
-single-sound : (c n k : ℕ) (s : Bytes) (e : Escape) → k < 128 → n < 128 → eqb c k ≡ true → single n ≡ some e → Sound (c ∷ s) e
+single-sound : (c n k : ℕ) (s : Bytes) (e : Escape) → k < 128 → n < 128 → eqb c k ≡ true → oneByte n ≡ some e → Sound (c ∷ s) e
 single-sound c n k s e l m t h =
     let z : _≡_ {A = Escape} (record { stands = n ∷ []; takes = 1 }) e = cc in
     rw z at at
@@ -165,7 +165,7 @@ read-shorter s v f h =
     let o = sound s (x .0) (x .1) in
     omega (arith, o .small, o .fits, f (takesOf (escapeAt s)) (y .0) (y .1), ap takesOf (x .1), ap length (y .2), length-append (x .0 .stands) (y .0))
 
-plain-shorter : (b : ℕ) (s v : Bytes) → Shorter s → behind (b ∷ []) (unescapeFrom 0 s) ≡ some v → length v ≤ suc (length s)
+plain-shorter : (b : ℕ) (s v : Bytes) → Shorter s → inFront (b ∷ []) (unescapeFrom 0 s) ≡ some v → length v ≤ suc (length s)
 plain-shorter b s v f h =
     let y = behind-some (b ∷ []) (unescapeFrom 0 s) v h in
     omega (arith, f 0 (y .0) (y .1), ap length (y .2))
@@ -187,12 +187,12 @@ abbrev pub plain : Bytes → Bool
 plain s = all (λ b. not (eqb b backslash)) s
 
 -- a text without a backslash reads as it is
-pub plain-read : (g s : Bytes) → plain g ≡ true → unescape (g ++ s) ≡ behind g (unescape s)
+pub plain-read : (g s : Bytes) → plain g ≡ true → unescape (g ++ s) ≡ inFront g (unescape s)
 unfolding unescapeFrom all
 plain-read [] s h = sym (behind-nil (unescape s))
 plain-read (b ∷ g) s h =
     rw (not-true (eqb b backslash) (all-head (λ b. not (eqb b backslash)) b g h))
-    (ap (behind (b ∷ [])) (plain-read g s (all-tail (λ b. not (eqb b backslash)) b g h)) ∙ behind-behind (b ∷ []) g (unescape s))
+    (ap (inFront (b ∷ [])) (plain-read g s (all-tail (λ b. not (eqb b backslash)) b g h)) ∙ behind-behind (b ∷ []) g (unescape s))
 
 -- a character that does not begin with a backslash has none
 pub whole-plain : (b : ℕ) (t : Bytes) → wellFormed (b ∷ t) ≡ true → eqb b backslash ≡ false → plain (b ∷ t) ≡ true
@@ -215,7 +215,7 @@ plain-utf8 :
     → isUtf8 v ≡ true
 plain-utf8 n b t v k l c e h f =
     let w = and-left (wellFormed (b ∷ take k t)) (isUtf8 (drop k t)) c in
-    let q : unescape (b ∷ t) ≡ behind (b ∷ take k t) (unescape (drop k t)) =
+    let q : unescape (b ∷ t) ≡ inFront (b ∷ take k t) (unescape (drop k t)) =
     ap (λ (s : Bytes). unescape (b ∷ s)) (sym (take-append-drop k t)) ∙ plain-read (b ∷ take k t) (drop k t) (whole-plain b (take k t) w e) in
     let y = behind-some (b ∷ take k t) (unescape (drop k t)) v (sym q ∙ h) in
     ap isUtf8 (y .2)

@@ -34,12 +34,12 @@ use Rattle.format.specs.Escaping.{
   escapeAt,
   unescapeFrom,
 }
-use Rattle.format.specs.Refusals.{row, numbers, _>>=_, _>>_, refuseIf, atMost}
+use Rattle.format.specs.Refusals.{table, numbers, _>>=_, _>>_, refuseIf, atMost}
 use Rattle.format.specs.Validators.{
   isEmpty,
-  inName,
-  inParamName,
-  inParamValue,
+  reservedInName,
+  reservedInParamName,
+  reservedInParamValue,
   headerName,
   headerValue,
   contentValue,
@@ -51,7 +51,7 @@ use Rattle.format.specs.Validators.{
 use Rattle.format.specs.Message.{insert, without, only, put, needEntry, needAlone, needHeader, need}
 use Rattle.format.specs.Calls.{
   room,
-  space,
+  enough,
   bodyLength,
   headerCount,
   paramCount,
@@ -110,7 +110,7 @@ use Rattle.format.specs.LookingUp.{
   countContents,
   closed,
   address,
-  fourth,
+  bodyOfSections,
   bodyOfText,
   inText,
   bufferFor,
@@ -121,5 +121,5 @@ use Rattle.format.specs.LookingUp.{
 use Rattle.format.specs.Showing.{digitsFrom, decimal, showNumbers, showMessage, show, showcpim}
 
 unfoldable pub computing : Unit {0}
-unfolding all any total texts same before begins occurs upTo past lower sameLetters splitFrom join trailIn fits wellFormed matched charsFrom chars isUtf8 codePoint isScalar encoding isWhite isControlCode isControl isAsciiControl dropFront dropBack trimBy replaced digit unicodeEscape shortForm escapeChar escape digitValue fourDigits scalarEscape longEscape shortEscape escapeAt unescapeFrom row numbers _>>=_ _>>_ refuseIf atMost isEmpty inName inParamName inParamValue headerName headerValue contentValue paramName paramValue contentType utf8 insert without only put needEntry needAlone needHeader need room space bodyLength headerCount paramCount contentCount ifRoom setBody append addContentHeader setParam paramText headerLine contentLine typeLine write each separator sections lineEnd lines readParam checkedValue readValue readParts readHeader readType readNamed readContentLine saysCpim bodyOf readLine readHeaderLine readSectionsOf readSections readWith new setHeader addHeader addHeaderObj aloneOf addParam ifRoomAlone newHeader withParam nsValue arguments change handedIn answer toText nth nthHeader getHeaderValue getHeader getParam countHeaders countParams countContents closed address fourth bodyOfText inText bufferFor findBody bufferAfter bodyPart digitsFrom decimal showNumbers showMessage show showcpim
+unfolding all any total texts same before begins occurs upTo past lower sameLetters splitFrom join trailIn fits wellFormed matched charsFrom chars isUtf8 codePoint isScalar encoding isWhite isControlCode isControl isAsciiControl dropFront dropBack trimBy replaced digit unicodeEscape shortForm escapeChar escape digitValue fourDigits scalarEscape longEscape shortEscape escapeAt unescapeFrom table numbers _>>=_ _>>_ refuseIf atMost isEmpty reservedInName reservedInParamName reservedInParamValue headerName headerValue contentValue paramName paramValue contentType utf8 insert without only put needEntry needAlone needHeader need room enough bodyLength headerCount paramCount contentCount ifRoom setBody append addContentHeader setParam paramText headerLine contentLine typeLine write each separator sections lineEnd lines readParam checkedValue readValue readParts readHeader readType readNamed readContentLine saysCpim bodyOf readLine readHeaderLine readSectionsOf readSections readWith new setHeader addHeader addHeaderObj aloneOf addParam ifRoomAlone newHeader withParam nsValue arguments change handedIn answer toText nth nthHeader getHeaderValue getHeader getParam countHeaders countParams countContents closed address bodyOfSections bodyOfText inText bufferFor findBody bufferAfter bodyPart digitsFrom decimal showNumbers showMessage show showcpim
 computing = tt

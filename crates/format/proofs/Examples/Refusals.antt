@@ -5,7 +5,7 @@ use Rattle.format.specs.Refusals.{numbers, _carrying_}
 use Rattle.format.specs.Bytes.{Bytes, ascii}
 use Rattle.format.specs.Calls.{Stores, new}
 use Rattle.format.specs.Reading.{read}
-use Rattle.format.specs.Examples.{RefusalExamples, Limits}
+use Rattle.format.specs.Examples.{RefusalExamples, AtLimits}
 use Rattle.format.proofs.Examples.Computing.{computing}
 
 long-text : (t : Bytes) (stores : Stores) → length t ≡ 20971521 → numbers (read t stores) ≡ 1 carrying 20971521
@@ -49,7 +49,7 @@ refusal-examples =
       unheld = refl;
     }
 
-pub limits : Limits
+pub limits : AtLimits
 unfolding computing
 limits =
     record {

@@ -14,7 +14,7 @@ use Rattle.format.specs.Characters.{isUtf8}
 use Rattle.format.specs.Limits.{maxHeaders, maxParams, maxContents, maxBody}
 use Rattle.format.specs.Refusals.{noRoom, tooShort, bodyTooLong, tooManyHeaders, tooManyParams, tooManyContents, notUtf8, accepted, passes}
 use Rattle.format.specs.Validators.{headerName, headerValue, contentValue, paramName, paramValue, contentType, utf8}
-use Rattle.format.specs.Message.{Entry, entry, Alone, Header, nameOf, named, Message, insert, without, put, need, needAlone}
+use Rattle.format.specs.Message.{Entry, entry, LoneHeader, Header, nameOf, named, Message, insert, without, put, need, needAlone}
 use Rattle.format.specs.Calls
 use Rattle.format.specs.Calls.{
   Stores,
@@ -54,8 +54,8 @@ pub room-passes : (store n : ℕ) → passes (room store n) ≡ true → n ≤ s
 unfolding room
 room-passes store n h = ltb-false store n (refuseIf-passes _ _ h)
 
-pub space-passes : (store n : ℕ) → passes (Calls.space store n) ≡ true → n ≤ store
-unfolding Calls.space
+pub space-passes : (store n : ℕ) → passes (Calls.enough store n) ≡ true → n ≤ store
+unfolding Calls.enough
 space-passes store n h = ltb-false store n (refuseIf-passes _ _ h)
 
 pub bodyLength-passes : (b : Bytes) → passes (bodyLength b) ≡ true → length b ≤ maxBody
@@ -135,7 +135,7 @@ append-accepted a st m k h =
     let r = ifRoom-accepted _ _ _ (h1 .0) in
     (sym (r .0), headerCount-passes (length (m .headers)) (h1 .1), r .1)
 
-pub addHeaderObj-accepted : (n : Bytes) (a : Alone) (st : Stores) (m k : Message) → addHeaderObj n a st m ≡ accepted k
+pub addHeaderObj-accepted : (n : Bytes) (a : LoneHeader) (st : Stores) (m k : Message) → addHeaderObj n a st m ≡ accepted k
     → (append (named n a) st m ≡ accepted k) × (passes (headerName n) ≡ true)
 unfolding addHeaderObj
 addHeaderObj-accepted n a st m k h = then-accepted _ _ _ h
@@ -159,7 +159,7 @@ addContentHeader-accepted n v st m k h =
     let r = ifRoom-accepted _ _ _ (h3 .0) in
     (sym (r .0), h1 .1, h2 .1, contentCount-passes (length (m .contents)) (h3 .1), r .1)
 
-pub aloneOf-accepted : (v : Bytes) (a : Alone) → aloneOf v ≡ accepted a → (a ≡ record { value = v; params = [] }) × (passes (headerValue v) ≡ true)
+pub aloneOf-accepted : (v : Bytes) (a : LoneHeader) → aloneOf v ≡ accepted a → (a ≡ record { value = v; params = [] }) × (passes (headerValue v) ≡ true)
 unfolding aloneOf
 aloneOf-accepted v a h =
     let h1 = then-accepted _ _ _ h in
@@ -174,21 +174,21 @@ setParam-accepted n v ps qs h =
     let h3 = then-accepted _ _ _ (h2 .0) in
     (sym (accepted-same _ qs (h3 .0)), h1 .1, h2 .1, paramCount-passes (length ps) (h3 .1))
 
-pub addParam-accepted : (n v : Bytes) (a k : Alone) → addParam n v a ≡ accepted k
+pub addParam-accepted : (n v : Bytes) (a k : LoneHeader) → addParam n v a ≡ accepted k
     → (qs : List Entry) × (setParam n v (a .params) ≡ accepted qs) × (k ≡ record { value = a .value; params = qs })
 unfolding addParam
 addParam-accepted n v a k h =
     let h1 = bind-accepted _ _ _ h in
     (h1 .0, h1 .1, sym (accepted-same _ k (h1 .2)))
 
-pub ifRoomAlone-accepted : (store : ℕ) (a k : Alone) → ifRoomAlone store a ≡ accepted k → (a ≡ k) × (needAlone k ≤ store)
+pub ifRoomAlone-accepted : (store : ℕ) (a k : LoneHeader) → ifRoomAlone store a ≡ accepted k → (a ≡ k) × (needAlone k ≤ store)
 unfolding ifRoomAlone
 ifRoomAlone-accepted store a k h =
     let h1 = then-accepted _ _ _ h in
     let e = accepted-same a k (h1 .0) in
     (e, rw (← e) (room-passes store (needAlone a) (h1 .1)))
 
-pub newHeader-accepted : (v : Bytes) (store : ℕ) (k : Alone) → newHeader v store ≡ accepted k
+pub newHeader-accepted : (v : Bytes) (store : ℕ) (k : LoneHeader) → newHeader v store ≡ accepted k
     → (aloneOf v ≡ accepted k) × (isUtf8 v ≡ true) × (needAlone k ≤ store)
 unfolding newHeader
 newHeader-accepted v store k h =
@@ -197,7 +197,7 @@ newHeader-accepted v store k h =
     let r = ifRoomAlone-accepted store (h2 .0) k (h2 .2) in
     (h2 .1 ∙ ap accepted (r .0), utf8-passes v (h1 .1), r .1)
 
-pub withParam-accepted : (n v : Bytes) (store : ℕ) (a k : Alone) → withParam n v store (some a) ≡ accepted k
+pub withParam-accepted : (n v : Bytes) (store : ℕ) (a k : LoneHeader) → withParam n v store (some a) ≡ accepted k
     → (addParam n v a ≡ accepted k) × (isUtf8 n ≡ true) × (isUtf8 v ≡ true) × (needAlone k ≤ store)
 unfolding withParam
 withParam-accepted n v store a k h =

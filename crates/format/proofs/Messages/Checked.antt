@@ -29,7 +29,7 @@ use Rattle.format.specs.Refusals.{
   passes,
   _>>_,
 }
-use Rattle.format.specs.Validators.{isEmpty, inName, inParamName, inParamValue, headerName, headerValue, contentValue, paramName, paramValue, contentType}
+use Rattle.format.specs.Validators.{isEmpty, reservedInName, reservedInParamName, reservedInParamValue, headerName, headerValue, contentValue, paramName, paramValue, contentType}
 use Rattle.format.proofs.Lists.{or-false-left, or-false-right, all-cons}
 use Rattle.format.proofs.Steps.{then-passes, refuseIf-passes, atMost-passes}
 
@@ -38,7 +38,7 @@ pub record Name (s : Bytes) : Type 0 where
   pub filled : isEmpty s ≡ false
   pub short : length s ≤ 128
   pub clear : any isAsciiControl s ≡ false
-  pub free : any inName s ≡ false
+  pub free : any reservedInName s ≡ false
 
 pub name-checked : (s : Bytes) → passes (headerName s) ≡ true → Name s
 unfolding headerName
@@ -46,7 +46,7 @@ name-checked s h =
     let a = refuseIf (isEmpty s) nameEmpty in
     let b = atMost maxName nameTooLong (length s) in
     let c = refuseIf (any isAsciiControl s) nameControl in
-    let d = refuseIf (any inName s) nameReserved in
+    let d = refuseIf (any reservedInName s) nameReserved in
     let k = then-passes a (_>>_ b (_>>_ c d)) h in
     let l = then-passes b (_>>_ c d) (k .1) in
     let m = then-passes c d (l .1) in
@@ -54,7 +54,7 @@ name-checked s h =
       filled = refuseIf-passes (isEmpty s) nameEmpty (k .0);
       short = atMost-passes maxName nameTooLong (length s) (l .0);
       clear = refuseIf-passes (any isAsciiControl s) nameControl (m .0);
-      free = refuseIf-passes (any inName s) nameReserved (m .1);
+      free = refuseIf-passes (any reservedInName s) nameReserved (m .1);
     }
 
 -- a content type
@@ -96,20 +96,20 @@ unfolding headerValue
 value-checked s h = atMost-passes maxValue valueTooLong (length s) h
 
 -- a parameter's name has no byte that is barred, nor has its value
-pub param-name-checked : (s : Bytes) → passes (paramName s) ≡ true → any inParamName s ≡ false
+pub param-name-checked : (s : Bytes) → passes (paramName s) ≡ true → any reservedInParamName s ≡ false
 unfolding paramName
 param-name-checked s h =
     let a = refuseIf (isEmpty s) paramNameEmpty in
     let b = atMost maxParamName paramNameTooLong (length s) in
-    let c = refuseIf (any inParamName s) paramNameReserved in
-    refuseIf-passes (any inParamName s) paramNameReserved ((then-passes b c ((then-passes a (_>>_ b c) h) .1)) .1)
+    let c = refuseIf (any reservedInParamName s) paramNameReserved in
+    refuseIf-passes (any reservedInParamName s) paramNameReserved ((then-passes b c ((then-passes a (_>>_ b c) h) .1)) .1)
 
-pub param-value-checked : (s : Bytes) → passes (paramValue s) ≡ true → any inParamValue s ≡ false
+pub param-value-checked : (s : Bytes) → passes (paramValue s) ≡ true → any reservedInParamValue s ≡ false
 unfolding paramValue
 param-value-checked s h =
     let a = atMost maxParamValue paramValueTooLong (length s) in
-    let b = refuseIf (any inParamValue s) paramValueReserved in
-    refuseIf-passes (any inParamValue s) paramValueReserved ((then-passes a b h) .1)
+    let b = refuseIf (any reservedInParamValue s) paramValueReserved in
+    refuseIf-passes (any reservedInParamValue s) paramValueReserved ((then-passes a b h) .1)
 
 -- where no element passes one test, each may pass another
 pub none-all : {A : Type 0} (p q : A → Bool) → ((x : A) → p x ≡ false → q x ≡ true) → (xs : List A) → any p xs ≡ false → all q xs ≡ true

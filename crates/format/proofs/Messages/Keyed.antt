@@ -53,16 +53,16 @@ module _ {A : Type 0} (key : A → Bytes) where
   pub all-inserted : (p : A → Bool) (x : A) (xs : List A) → all p (insert key x xs) ≡ true → (p x ≡ true) × (all p xs ≡ true)
   unfolding insert all
   all-inserted p x [] h = (all-head p x [] h, refl)
-  all-inserted p x (y ∷ ys) h = ⊎-elim front (behind (all-inserted p x ys)) (bcase (before (key x) (key y)))
+  all-inserted p x (y ∷ ys) h = ⊎-elim front (inFront (all-inserted p x ys)) (bcase (before (key x) (key y)))
     where
       front : before (key x) (key y) ≡ true → (p x ≡ true) × (all p (y ∷ ys) ≡ true)
       front e =
           let k = rw e at h in
           (all-head p x (y ∷ ys) k, all-tail p x (y ∷ ys) k)
 
-      behind : (all p (insert key x ys) ≡ true → (p x ≡ true) × (all p ys ≡ true)) → before (key x) (key y) ≡ false
+      inFront : (all p (insert key x ys) ≡ true → (p x ≡ true) × (all p ys ≡ true)) → before (key x) (key y) ≡ false
           → (p x ≡ true) × (all p (y ∷ ys) ≡ true)
-      behind ih e =
+      inFront ih e =
           let k = rw e at h in
           let r = ih (all-tail p y (insert key x ys) k) in
           (r .0, all-cons p y ys (all-head p y (insert key x ys) k) (r .1))
@@ -204,9 +204,9 @@ module _ {A : Type 0} (key : A → Bytes) where
       in
       increasing-cons x (y ∷ ys) (all-cons (λ z. before (key x) (key z)) y ys e later) h
 
-  -- a name that is not before another, nor the same, is behind it
-  behind : (s t : Bytes) → before s t ≡ false → same s t ≡ false → before t s ≡ true
-  behind s t h k = ⊎-elim (λ e. e) (λ e. clash (ap (same s) (before-total t s e h) ∙ same-refl s) k) (bcase (before t s))
+  -- a name that is not before another, nor the same, is inFront it
+  inFront : (s t : Bytes) → before s t ≡ false → same s t ≡ false → before t s ≡ true
+  inFront s t h k = ⊎-elim (λ e. e) (λ e. clash (ap (same s) (before-total t s e h) ∙ same-refl s) k) (bcase (before t s))
 
   -- increasing names stay so where a new one is inserted
   pub increasing-insert : (x : A) (xs : List A) → all (λ y. not (same (key x) (key y))) xs ≡ true → increasing key xs ≡ true
@@ -219,7 +219,7 @@ module _ {A : Type 0} (key : A → Bytes) where
       (λ e. rw e (increasing-front x y ys e h))
       (λ e. rw e
       (increasing-cons y (insert key x ys)
-      (all-insert (λ z. before (key y) (key z)) x ys (behind (key x) (key y) e other) (increasing-later y ys h))
+      (all-insert (λ z. before (key y) (key z)) x ys (inFront (key x) (key y) e other) (increasing-later y ys h))
       (increasing-insert x ys (all-tail (λ y. not (same (key x) (key y))) y ys n) (increasing-rest y ys h))))
       (bcase (before (key x) (key y)))
 

@@ -55,11 +55,11 @@ module _ {A : Type 0} (key : A → Bytes) where
           (λ s. ap not s)
           (bcase (same k (key z)))
 
-  -- a new one goes behind those of its name, and the lists of other names stay
+  -- a new one goes inFront those of its name, and the lists of other names stay
   pub only-insert-same : (x : A) (xs : List A) → ascending key xs ≡ true → only key (key x) (insert key x xs) ≡ only key (key x) xs ++ (x ∷ [])
   unfolding insert only
   only-insert-same x [] h = rw (same-refl (key x)) refl
-  only-insert-same x (y ∷ ys) h = ⊎-elim front (behind (only-insert-same x ys (ascending-rest key y ys h))) (bcase (before (key x) (key y)))
+  only-insert-same x (y ∷ ys) h = ⊎-elim front (inFront (only-insert-same x ys (ascending-rest key y ys h))) (bcase (before (key x) (key y)))
     where
       front : before (key x) (key y) ≡ true → only key (key x) (insert key x (y ∷ ys)) ≡ only key (key x) (y ∷ ys) ++ (x ∷ [])
       front e =
@@ -67,23 +67,23 @@ module _ {A : Type 0} (key : A → Bytes) where
           ∙ only-same key (key x) x (y ∷ ys) (same-refl (key x))
           ∙ rw (only-before (key x) y ys e h) refl
 
-      behind : only key (key x) (insert key x ys) ≡ only key (key x) ys ++ (x ∷ []) → before (key x) (key y) ≡ false
+      inFront : only key (key x) (insert key x ys) ≡ only key (key x) ys ++ (x ∷ []) → before (key x) (key y) ≡ false
           → only key (key x) (insert key x (y ∷ ys)) ≡ only key (key x) (y ∷ ys) ++ (x ∷ [])
-      behind ih e =
+      inFront ih e =
           ap (only key (key x)) (insert-behind key x y ys e)
           ∙ ⊎-elim (λ s. rw s (ap (λ l. y ∷ l) ih)) (λ s. rw s ih) (bcase (same (key x) (key y)))
 
   pub only-insert-other : (k : Bytes) (x : A) (xs : List A) → same k (key x) ≡ false → only key k (insert key x xs) ≡ only key k xs
   unfolding insert only
   only-insert-other k x [] h = rw h refl
-  only-insert-other k x (y ∷ ys) h = ⊎-elim front (behind (only-insert-other k x ys h)) (bcase (before (key x) (key y)))
+  only-insert-other k x (y ∷ ys) h = ⊎-elim front (inFront (only-insert-other k x ys h)) (bcase (before (key x) (key y)))
     where
       front : before (key x) (key y) ≡ true → only key k (insert key x (y ∷ ys)) ≡ only key k (y ∷ ys)
       front e = ap (only key k) (insert-front key x y ys e) ∙ only-other key k x (y ∷ ys) h
 
-      behind : only key k (insert key x ys) ≡ only key k ys → before (key x) (key y) ≡ false
+      inFront : only key k (insert key x ys) ≡ only key k ys → before (key x) (key y) ≡ false
           → only key k (insert key x (y ∷ ys)) ≡ only key k (y ∷ ys)
-      behind ih e =
+      inFront ih e =
           ap (only key k) (insert-behind key x y ys e)
           ∙ ⊎-elim (λ s. rw s (ap (λ l. y ∷ l) ih)) (λ s. rw s ih) (bcase (same k (key y)))
 
@@ -106,7 +106,7 @@ module _ {A : Type 0} (key : A → Bytes) where
   first-before x y xs ys h f e =
       cons-nil x (only key (key x) xs) (sym (only-same key (key x) x xs (same-refl (key x))) ∙ f ∙ only-before (key x) y ys e h)
 
-  -- behind equal first elements the lists for each name are equal too
+  -- inFront equal first elements the lists for each name are equal too
   rest-same : (x : A) (xs ys : List A) (n : Bytes) → only key n (x ∷ xs) ≡ only key n (x ∷ ys) → only key n xs ≡ only key n ys
   rest-same x xs ys n f = ⊎-elim there other (bcase (same n (key x)))
     where

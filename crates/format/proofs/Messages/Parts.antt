@@ -14,7 +14,7 @@ use Rattle.format.specs.Validators.{headerName, headerValue, contentValu
 use Rattle.format.specs.Message.{
   Entry,
   entryName,
-  Alone,
+  LoneHeader,
   Header,
   nameOf,
   alone,
@@ -54,7 +54,7 @@ pub record Params (ps : List Entry) : Type 0 where
   pub ordered : increasing entryName ps ≡ true
   pub few : length ps ≤ maxParams
 
-pub record ByItself (a : Alone) : Type 0 where
+pub record ByItself (a : LoneHeader) : Type 0 where
   pub valued : passes (headerValue (a .value)) ≡ true
   pub value-utf8 : isUtf8 (a .value) ≡ true
   pub params : Params (a .params)
@@ -108,7 +108,7 @@ pub content-whole : (e : Entry) → Content e → validContent e ≡ true
 unfolding validContent
 content-whole e w = and-intro _ _ (w .named) (and-intro _ _ (w .valued) (and-intro _ _ (w .name-utf8) (w .value-utf8)))
 
-pub alone-parts : (a : Alone) → validAlone a ≡ true → ByItself a
+pub alone-parts : (a : LoneHeader) → validAlone a ≡ true → ByItself a
 unfolding validAlone
 alone-parts a h =
     let p = both _ _ h in
@@ -121,7 +121,7 @@ alone-parts a h =
       params = record { each = r .0; ordered = s .0; few = leb-true (length (a .params)) maxParams (s .1) };
     }
 
-pub alone-whole : (a : Alone) → ByItself a → validAlone a ≡ true
+pub alone-whole : (a : LoneHeader) → ByItself a → validAlone a ≡ true
 unfolding validAlone
 alone-whole a w =
     let ps = w .params in

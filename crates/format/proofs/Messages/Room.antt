@@ -10,7 +10,7 @@ use native.Mathlib.Omega.{arith}
 use lib.ListN.{length}
 use Rattle.format.specs.Bytes.{Bytes, ascii}
 use Rattle.format.specs.Refusals.{accepted, nothingHeld}
-use Rattle.format.specs.Message.{Alone, named, Message, need}
+use Rattle.format.specs.Message.{LoneHeader, named, Message, need}
 use Rattle.format.specs.Calls.{
   Stores,
   setBody,
@@ -68,7 +68,7 @@ module _ (st : Stores) (m k : Message) where
       let a = setBody-accepted b st m k h in
       record { lent = refl; fits = rw (a .0) (a .2); rest = rw (a .0) refl }
 
-  obj-kept : (n : Bytes) (a : Alone) → addHeaderObj n a st m ≡ accepted k → Kept st m k
+  obj-kept : (n : Bytes) (a : LoneHeader) → addHeaderObj n a st m ≡ accepted k → Kept st m k
   obj-kept n a h =
       let q = append-accepted (named n a) st m k ((addHeaderObj-accepted n a st m k h) .0) in
       record { fits = q .2; rest = ap (λ x. x .body) (q .0) }

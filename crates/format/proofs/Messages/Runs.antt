@@ -13,7 +13,7 @@ use Rattle.format.specs.Limits.{maxType}
 use Rattle.format.specs.Refusals.{typeTooLong, Out, accepted, refused, passes}
 use Rattle.format.specs.declared.Numbers.{Numbers}
 use Rattle.format.specs.Validators.{contentType}
-use Rattle.format.specs.Message.{Entry, Alone, Header, Message, needEntry, needAlone, needHeader, need, valid}
+use Rattle.format.specs.Message.{Entry, LoneHeader, Header, Message, needEntry, needAlone, needHeader, need, valid}
 use Rattle.format.specs.Calls.{
   Stores,
   setHeader,
@@ -74,7 +74,7 @@ layoutHeader-length h =
 headers-length : (hs : List Header) → length (texts layoutHeader hs) ≡ total needHeader hs
 headers-length hs = length-texts layoutHeader hs ∙ total-same (λ h. length (layoutHeader h)) needHeader layoutHeader-length hs
 
-pub layoutAlone-length : (a : Alone) → length (layoutAlone a) ≡ needAlone a
+pub layoutAlone-length : (a : LoneHeader) → length (layoutAlone a) ≡ needAlone a
 unfolding layoutAlone needAlone
 layoutAlone-length a = simp length-append (omega (arith, entries-length (a .params)))
 

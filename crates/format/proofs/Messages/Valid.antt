@@ -9,7 +9,7 @@ use native.Mathlib.Omega.{arith}
 use Rattle.format.specs.Bytes.{Bytes, ascii, all}
 use Rattle.format.specs.Characters.{isUtf8}
 use Rattle.format.specs.Refusals.{Out, accepted, refused, nothingHeld}
-use Rattle.format.specs.Message.{Entry, entry, Alone, Header, nameOf, named, Message, without, ascending, increasing, validAlone, valid}
+use Rattle.format.specs.Message.{Entry, entry, LoneHeader, Header, nameOf, named, Message, without, ascending, increasing, validAlone, valid}
 use Rattle.format.specs.Calls.{
   Stores,
   new,
@@ -128,7 +128,7 @@ module _ (st : Stores) (m k : Message) (w : Within m) where
         body = w .body;
       })
 
-  pub addHeaderObj-within : (n : Bytes) (a : Alone) → isUtf8 n ≡ true → ByItself a → addHeaderObj n a st m ≡ accepted k → Within k
+  pub addHeaderObj-within : (n : Bytes) (a : LoneHeader) → isUtf8 n ≡ true → ByItself a → addHeaderObj n a st m ≡ accepted k → Within k
   addHeaderObj-within n a u p h =
       let q = addHeaderObj-accepted n a st m k h in
       append-within (named n a) (record { named = q .1; name-utf8 = u; rest = p }) (q .0)
@@ -176,7 +176,7 @@ module _ (st : Stores) (m k : Message) (w : Within m) where
       })
 
 -- A header alone.
-pub aloneOf-within : (v : Bytes) (a : Alone) → isUtf8 v ≡ true → aloneOf v ≡ accepted a → ByItself a
+pub aloneOf-within : (v : Bytes) (a : LoneHeader) → isUtf8 v ≡ true → aloneOf v ≡ accepted a → ByItself a
 aloneOf-within v a u h =
     let q = aloneOf-accepted v a h in
     rw (q .0) (record { valued = q .1; value-utf8 = u; params = no-params })
@@ -193,18 +193,18 @@ setParam-within n v ps qs u x w h =
       few = omega (arith, length-put (entry n v) ps);
     })
 
-pub addParam-within : (n v : Bytes) (a k : Alone) → isUtf8 n ≡ true → isUtf8 v ≡ true → ByItself a → addParam n v a ≡ accepted k → ByItself k
+pub addParam-within : (n v : Bytes) (a k : LoneHeader) → isUtf8 n ≡ true → isUtf8 v ≡ true → ByItself a → addParam n v a ≡ accepted k → ByItself k
 addParam-within n v a k u x w h =
     let q = addParam-accepted n v a k h in
     rw (q .2)
     (record { valued = w .valued; value-utf8 = w .value-utf8; params = setParam-within n v (a .params) (q .0) u x (w .params) (q .1) })
 
-pub newHeader-valid : (v : Bytes) (store : ℕ) (k : Alone) → newHeader v store ≡ accepted k → validAlone k ≡ true
+pub newHeader-valid : (v : Bytes) (store : ℕ) (k : LoneHeader) → newHeader v store ≡ accepted k → validAlone k ≡ true
 newHeader-valid v store k h =
     let q = newHeader-accepted v store k h in
     alone-whole k (aloneOf-within v k (q .1) (q .0))
 
-pub withParam-valid : (n v : Bytes) (store : ℕ) (a k : Alone) → validAlone a ≡ true → withParam n v store (some a) ≡ accepted k → validAlone k ≡ true
+pub withParam-valid : (n v : Bytes) (store : ℕ) (a k : LoneHeader) → validAlone a ≡ true → withParam n v store (some a) ≡ accepted k → validAlone k ≡ true
 withParam-valid n v store a k w h =
     let q = withParam-accepted n v store a k h in
     alone-whole k (addParam-within n v a k (q .1) (q .2) (alone-parts a w) (q .0))

@@ -25,7 +25,7 @@ use Rattle.format.proofs.Texts.ReadOver.{empty-skipped, header-added, c
 abbrev letter : ℕ
 letter = 67
 
--- the sections of a text whose first line has two empty lines behind it, then the letter
+-- the sections of a text whose first line has two empty lines inFront it, then the letter
 headless-sections : (u : Bytes) → sections (firstLine ++ (CRLFCRLF ++ (CRLF ++ (letter ∷ u))))
     ≡ firstLine ∷ (CRLF ++ (letter ∷ (split CRLFCRLF u) .first)) ∷ (split CRLFCRLF u) .rest
 unfolding sections separator begins any

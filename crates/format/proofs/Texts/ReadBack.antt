@@ -145,7 +145,7 @@ type-step st m t v c = read-type-line t st m ∙ rw (trim-clear isWhite t c) (th
 
 pub body-back : (st : Stores) (m : Message) (b : Bytes) → length b ≤ 10485760 → length b ≤ st .body
     → setBody b st m ≡ accepted (parts (m .headers) (m .type) (m .contents) b)
-unfolding setBody bodyLength Calls.space
+unfolding setBody bodyLength Calls.enough
 body-back st m b l r =
     then-passed (atMost maxBody bodyTooLong (length b)) _ (atMost-passed maxBody bodyTooLong (length b) l)
     ∙ then-passed (refuseIf (ltb (st .body) (length b)) (tooShort (length b))) _ (refuseIf-passed (ltb (st .body) (length b)) (tooShort (length b)) (le-ltb (st .body) (length b) r))

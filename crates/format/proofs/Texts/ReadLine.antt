@@ -1,4 +1,4 @@
--- Reading one written line: the first colon is the one behind the name, since a name holds none; a space behind it is trimmed away,
+-- Reading one written line: the first colon is the one inFront the name, since a name holds none; a space inFront it is trimmed away,
 -- and an escaped value comes back without the white space at its ends that is no control character. Assumes nothing.
 use Prim.Native.Nat.{ℕ}
 use mathlib.Core.Path.{_≡_, refl, sym, ap, _∙_}
@@ -28,7 +28,7 @@ use Rattle.format.specs.Characters.{
 use Rattle.format.specs.Escaping.{escape}
 use Rattle.format.specs.Limits.{maxValue}
 use Rattle.format.specs.Refusals.{lacksColon, valueTooLong, accepted, refuseIf, passes, _>>_, _>>=_}
-use Rattle.format.specs.Validators.{inName, headerName, headerValue}
+use Rattle.format.specs.Validators.{reservedInName, headerName, headerValue}
 use Rattle.format.specs.Message.{Entry, Header, Message, validHeader, validContent}
 use Rattle.format.specs.Calls.{Stores}
 use Rattle.format.specs.Writing.{paramText, headerLine, contentLine, typeLine}
@@ -48,14 +48,14 @@ other-way a b h = ne-eqb b a (λ e. eqb-false a b h (sym e))
 
 -- a name holds no colon and no semicolon
 pub name-colon : (s : Bytes) → passes (headerName s) ≡ true → has colon s ≡ false
-unfolding inName any
+unfolding reservedInName any
 name-colon s h =
-    none-none inName (eqb colon) (λ b k. other-way b colon (or-false-left (eqb b colon) (any (eqb b) (ascii ";=\\\"")) k)) s ((name-checked s h) .free)
+    none-none reservedInName (eqb colon) (λ b k. other-way b colon (or-false-left (eqb b colon) (any (eqb b) (ascii ";=\\\"")) k)) s ((name-checked s h) .free)
 
 pub name-semicolon : (s : Bytes) → passes (headerName s) ≡ true → has semicolon s ≡ false
-unfolding inName any
+unfolding reservedInName any
 name-semicolon s h =
-    none-none inName (eqb semicolon)
+    none-none reservedInName (eqb semicolon)
     (λ b k. other-way b semicolon
     (or-false-left (eqb b semicolon) (any (eqb b) (ascii "=\\\"")) (or-false-right (eqb b colon) (any (eqb b) (ascii ";=\\\"")) k)))
     s
@@ -70,7 +70,7 @@ pub trim-space : (s : Bytes) → trim (space ∷ s) ≡ trim s
 unfolding trimBy dropFront
 trim-space s = rw (chars-ascii space s (omega arith), space-white) refl
 
--- what is behind the name of a header's line: the parameters, a space, the escaped value
+-- what is inFront the name of a header's line: the parameters, a space, the escaped value
 abbrev pub behindColon : Header → Bytes
 behindColon h = texts paramText (h .params) ++ (ascii " " ++ escape (h .value))
 

@@ -77,7 +77,7 @@ pub lines-utf8 : (s : Bytes) → isUtf8 s ≡ true → all isUtf8 (lines s) ≡ 
 unfolding lines lineEnd all
 lines-utf8 s u = ⊎-elim (λ e. rw e (split-utf8 _ _ s refl u)) (λ e. rw e (split-utf8 _ _ s refl u)) (bcase (occurs CRLF s))
 
--- what stands before and behind the first c, trimmed
+-- what stands before and inFront the first c, trimmed
 front-utf8 : (c : ℕ) (l : Bytes) → suc c ≤ 128 → isUtf8 l ≡ true → isUtf8 (trim (upTo c l)) ≡ true
 front-utf8 c l h u = trim-utf8 isWhite (upTo c l) (upTo-utf8 c l h u)
 

@@ -10,7 +10,7 @@ use Rattle.format.specs.Characters.{isAsciiControl, isUtf8, replaced}
 use Rattle.format.specs.Escaping.{escape}
 use Rattle.format.specs.Limits.{maxText}
 use Rattle.format.specs.Refusals.{Out, textTooLong, noMessageCpim, notUtf8, atMost, refuseIf, passes, _>>_, _>>=_}
-use Rattle.format.specs.Validators.{isEmpty, inParamName, inParamValue, utf8}
+use Rattle.format.specs.Validators.{isEmpty, reservedInParamName, reservedInParamValue, utf8}
 use Rattle.format.specs.Message.{Entry, Header, Message, need, validParam, validHeader, validContent, validType, valid}
 use Rattle.format.specs.Calls.{Stores, room, setBody}
 use Rattle.format.specs.Writing.{paramText, headerLine, contentLine, typeLine, firstLine, ended, write}
@@ -37,11 +37,11 @@ both-high : (s t : Bytes) → all (leb 32) s ≡ true → all (leb 32) t ≡ tru
 both-high s t h k = all-append (leb 32) s t ∙ and-intro (all (leb 32) s) (all (leb 32) t) h k
 
 param-high : (e : Entry) → validParam e ≡ true → all (leb 32) (paramText e) ≡ true
-unfolding paramText all inParamName inParamValue
+unfolding paramText all reservedInParamName reservedInParamValue
 param-high e v =
     let w = param-parts e v in
-    let n = none-all inParamName (leb 32) (λ b h. printable b (or-false-left (isAsciiControl b) (has b (ascii ";=\\\"")) h)) (e .name) (param-name-checked (e .name) (w .named)) in
-    let x = none-all inParamValue (leb 32) (λ b h. printable b (or-false-left (isAsciiControl b) (has b (ascii ";\\\"")) h)) (e .value) (param-value-checked (e .value) (w .valued)) in
+    let n = none-all reservedInParamName (leb 32) (λ b h. printable b (or-false-left (isAsciiControl b) (has b (ascii ";=\\\"")) h)) (e .name) (param-name-checked (e .name) (w .named)) in
+    let x = none-all reservedInParamValue (leb 32) (λ b h. printable b (or-false-left (isAsciiControl b) (has b (ascii ";\\\"")) h)) (e .value) (param-value-checked (e .value) (w .valued)) in
     both-high (ascii ";") (e .name ++ (ascii "=" ++ e .value)) refl (both-high (e .name) (ascii "=" ++ e .value) n (both-high (ascii "=") (e .value) refl x))
 
 pub header-line-is : (h : Header) → validHeader h ≡ true → line (headerLine h) ≡ true
@@ -88,7 +88,7 @@ unfolding texts
 texts-map f g [] = refl
 texts-map f g (x ∷ xs) = rw (texts-map f g xs) refl
 
--- texts each with CRLF behind it, then an empty line, by blocks
+-- texts each with CRLF inFront it, then an empty line, by blocks
 blocked : {A : Type 0} (f : A → Bytes) (x : A) (xs : List A) (t : Bytes)
     → texts (λ y. ended (f y)) (x ∷ xs) ++ (CRLF ++ t) ≡ join CRLF (map f (x ∷ xs)) ++ (CRLFCRLF ++ t)
 blocked f x xs t = rw (texts-map f ended (x ∷ xs)) (join-block (map f xs) (f x) t)
