@@ -172,3 +172,7 @@ join sep (p ∷ ps) = p ++ texts (λ q. sep ++ q) ps
 -- s over the bytes of d from the place at on; all others as they were
 unfoldable pub pasted : ℕ → Bytes → Bytes → Bytes
 pasted at s d = take at d ++ (s ++ drop (at + length s) d)
+
+-- s over the first bytes of d; all others as they were
+abbrev pub over : Bytes → Bytes → Bytes
+over s d = s ++ drop (length s) d

@@ -7,9 +7,9 @@ use mathlib.Core.Logic.{_↔_}
 use mathlib.Core.List.{List, [], _∷_}
 use mathlib.Core.Option.{Option, none, some}
 use lib.ListN.{length}
-use Rattle.format.specs.Bytes.{Bytes, ascii, all, sameLetters}
+use Rattle.format.specs.Bytes.{Bytes, ascii, all, sameLetters, over}
 use Rattle.format.specs.Characters.{isUtf8, isWhite, isLost, clearEnds}
-use Rattle.format.specs.Refusals.{Out, accepted, refused}
+use Rattle.format.specs.Refusals.{Out, accepted, refused, _carrying_}
 use Rattle.format.specs.Message.{Entry, Header, Message, need, validAlone}
 use Rattle.format.specs.Calls.{
   Stores,
@@ -33,8 +33,10 @@ use Rattle.format.specs.Calls.{
 }
 use Rattle.format.specs.Writing.{write}
 use Rattle.format.specs.Reading.{read}
-use Rattle.format.specs.Layout.{Holds}
-use Rattle.format.specs.Changing.{State, lend, lengths, Run}
+use Rattle.format.specs.Layout.{Lent, Holds}
+use Rattle.format.specs.Lending.{lengths, Made, Parsed, Wrote}
+use Rattle.format.specs.Runs.{State, lend, Run}
+use Rattle.format.specs.declared.Numbers.{Numbers}
 
 -- The condition, clause by clause.
 
@@ -88,11 +90,6 @@ unfoldable pub after : Stores → Message → List Call → Message
 after stores m [] = m
 after stores m (c ∷ cs) = after stores (next (answer c stores (some m)) m) cs
 
--- What a list begins with: what `new` or reading defines, on stores of these lengths.
-pub data Begins (stores : Stores) (m : Message) : Type 0 where
-  by-new : (t b : Bytes) → new t b stores ≡ accepted m → Begins stores m
-  by-reading : (t : Bytes) → read t stores ≡ accepted m → Begins stores m
-
 -- A header handed to `add_header_obj` counts as what it holds: a header within limits and validators, or nothing.
 unfoldable pub holdsHeader : Call → Bool
 holdsHeader (set-body b) = true
@@ -115,24 +112,52 @@ holdsHeader (with-content-header n v) = true
 abbrev pub RoomFor : Message → Stores → Type 0
 RoomFor m stores = (need m ≤ stores .head) × (length (m .body) ≤ stores .body)
 
--- M is the message of some list of calls.
-pub record Reached (m : Message) : Type 0 where
-  pub stores : Stores
+-- How a list begins: an accepted `new` or `parse_cpim`, lent these stores, left the state s and defines m.
+pub data Begun (s : State) (m : Message) : Type 0 where
+  by-new :
+      (t b : Bytes) (l : Lent) (n : Numbers) →
+      Made t b l (lend true s) n →
+      new t b (lengths l) ≡ accepted m →
+      Begun s m
+  by-reading :
+      (t : Bytes) (l : Lent) (n : Numbers) →
+      Parsed t l (lend true s) n →
+      read t (lengths l) ≡ accepted m →
+      Begun s m
+
+-- A list of changing calls, begun so, has led to the state t, and the message that it defines is m.
+pub record History (t : State) (m : Message) : Type 0 where
+  pub start : State
   pub first : Message
-  pub begun : Begins stores first
+  pub begun : Begun start first
   pub calls : List Call
   pub handed : all holdsHeader calls ≡ true
-  pub reached : m ≡ after stores first calls
+  pub run : Run start calls t
+  pub defined : m ≡ after (lengths (lend true start)) first calls
 
 pub record Demand3 : Type 0 where
-  -- The message held after the list equals M.
-  pub held : (s t : State) (m : Message) (cs : List Call) →
-      Begins (lengths (lend true s)) m →
-      Holds (lend true s) m →
-      all holdsHeader cs ≡ true →
-      Run s cs t →
-      Holds (lend true t) (after (lengths (lend true s)) m cs)
+  -- The message held after the list is M, and no other.
+  pub held : (t : State) (m : Message) → History t m → Holds (lend true t) m
+  pub only : (t : State) (m : Message) → History t m → (k : Message) → Holds (lend true t) k → k ≡ m
+  -- `to_string`, given room, writes M's text T.
+  pub written : (t : State) (m : Message) →
+      History t m →
+      (out new : Bytes) (n : Numbers) →
+      Wrote (lend true t) out new n →
+      length (write m) ≤ length out →
+      (n ≡ 0 carrying 0) × (new ≡ over (write m) out)
   -- Reading T, with room for M, gives M exactly under the condition.
-  pub back : (m : Message) → Reached m → (stores : Stores) → RoomFor m stores → (read (write m) stores ≡ accepted m) ↔ (comesBack m ≡ true)
+  pub back : (t : State) (m : Message) →
+      History t m →
+      (stores : Stores) →
+      RoomFor m stores →
+      (read (write m) stores ≡ accepted m) ↔ (comesBack m ≡ true)
   -- Two messages that both meet the condition have equal texts exactly when they are equal.
-  pub texts : (m k : Message) → Reached m → Reached k → comesBack m ≡ true → comesBack k ≡ true → (write m ≡ write k) ↔ (m ≡ k)
+  pub equal : (t u : State) (m k : Message) →
+      History t m →
+      History u k →
+      comesBack m ≡ true →
+      comesBack k ≡ true →
+      (write m ≡ write k) ↔ (m ≡ k)
+  -- Every list of calls has a run from every state that holds a message: none of this is said of nothing.
+  pub runs : (s : State) (m : Message) → Holds (lend true s) m → (cs : List Call) → all holdsHeader cs ≡ true → (t : State) × Run s cs t

@@ -12,10 +12,11 @@ use Rattle.format.specs.Message.{Entry, LoneHeader, Header, Message, nee
 use Rattle.format.specs.declared.CpimMessage.{CpimMessage}
 use Rattle.format.specs.declared.CpimHeader.{CpimHeader}
 
--- 16 bytes: length of the name, of the value (two bytes, low first), count of parameters, their length (two bytes), ten zeros
+-- The numbers of an entry, 16 bytes: length of the name, of the value (two bytes, low first), count of parameters, their length (two bytes), ten zeros
 unfoldable pub fixed : ℕ → ℕ → ℕ → ℕ → Bytes
 fixed n v k t = n ∷ (v % 256) ∷ (v / 256) ∷ k ∷ (t % 256) ∷ (t / 256) ∷ replicate 10 0
 
+-- an entry: its numbers, name, value, and behind them the bytes of its parameters
 unfoldable pub entryBytes : Bytes → Bytes → ℕ → Bytes → Bytes
 entryBytes n v k tail = fixed (length n) (length v) k (length tail) ++ (n ++ (v ++ tail))
 
@@ -23,6 +24,7 @@ entryBytes n v k tail = fixed (length n) (length v) k (length tail) ++ (n ++ (v 
 unfoldable pub layoutEntry : Entry → Bytes
 layoutEntry e = entryBytes (e .name) (e .value) 0 []
 
+-- a header with its parameters
 unfoldable pub layoutHeader : Header → Bytes
 layoutHeader h = entryBytes (h .name) (h .value) (length (h .params)) (texts layoutEntry (h .params))
 
@@ -31,6 +33,7 @@ unfoldable pub layout : Message → Bytes
 layout m =
     m .type ++ (replicate (256 - length (m .type)) 0 ++ (texts layoutHeader (m .headers) ++ texts layoutEntry (m .contents)))
 
+-- the record of a message
 unfoldable pub recordOf : Message → CpimMessage
 recordOf m =
     record {
@@ -46,15 +49,16 @@ recordOf m =
 unfoldable pub layoutAlone : LoneHeader → Bytes
 layoutAlone h = replicate 16 0 ++ (h .value ++ texts layoutEntry (h .params))
 
+-- the record of a header alone
 unfoldable pub headerOf : LoneHeader → CpimHeader
-headerOf h = record { valuelen = length (h .value); params = length (h .params); paramlen = total needEntry (h .params) }
+headerOf h = record { valuelen = length (h .value); params = length (h .params); size = needAlone h }
 
 -- no type, no entry, body length 0: the empty record, which holds nothing
 abbrev pub emptyMessage : CpimMessage
 emptyMessage = record { typelen = 0; headers = 0; headerlen = 0; contents = 0; contentlen = 0; bodylen = 0 }
 
 abbrev pub emptyHeader : CpimHeader
-emptyHeader = record { valuelen = 0; params = 0; paramlen = 0 }
+emptyHeader = record { valuelen = 0; params = 0; size = 0 }
 
 -- A message's record and the stores lent with it; a call that takes the head store alone is lent no body store.
 pub record Lent : Type 0 where
@@ -79,3 +83,13 @@ pub record HoldsAlone (r : CpimHeader) (store : Bytes) (h : LoneHeader) : Type 0
   pub within : validAlone h ≡ true
   pub recorded : r ≡ headerOf h
   pub laid : take (needAlone h) store ≡ layoutAlone h
+
+-- What record and stores hold: a message, or nothing.
+pub data Held (l : Lent) : Option Message → Type 0 where
+  message : {m : Message} → Holds l m → Held l (some m)
+  nothing : ((m : Message) → Holds l m → ⊥) → Held l none
+
+-- What a header's record and store hold: a header alone, or nothing.
+pub data HeldAlone (r : CpimHeader) (store : Bytes) : Option LoneHeader → Type 0 where
+  header : {h : LoneHeader} → HoldsAlone r store h → HeldAlone r store (some h)
+  nothing : ((h : LoneHeader) → HoldsAlone r store h → ⊥) → HeldAlone r store none

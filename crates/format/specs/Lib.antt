@@ -11,7 +11,8 @@ pub mod Reading
 pub mod LookingUp
 pub mod Showing
 pub mod Layout
-pub mod Changing
+pub mod Lending
+pub mod Runs
 pub mod Demand3
 pub mod Specimens
 pub mod Examples

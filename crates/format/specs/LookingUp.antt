@@ -5,7 +5,7 @@ use mathlib.Core.List.{List, [], _∷_, _++_}
 use mathlib.Core.Option.{Option, none, some}
 use lib.Dec.{leb}
 use lib.ListN.{length, take, drop}
-use Rattle.format.specs.Bytes.{Bytes, if_then_else_, total, has, upTo, past, occurs, less-sign, greater-sign, CRLFCRLF}
+use Rattle.format.specs.Bytes.{Bytes, if_then_else_, total, has, upTo, past, occurs, less-sign, greater-sign, CRLFCRLF, over}
 use Rattle.format.specs.Characters.{isUtf8}
 use Rattle.format.specs.Limits.{maxText}
 use Rattle.format.specs.Refusals.{textTooLong, tooFewSections, Out, accepted, refused, Check, pass, atMost, _>>_, _>>=_}
@@ -123,14 +123,21 @@ findBody t buffer = do
   bufferFor (inText t) buffer (length b)
   accepted b
 
+-- the length that the first call gives; 0 where it is refused
+unfoldable pub bodyLengthOf : Out Bytes → ℕ
+bodyLengthOf (accepted b) = length b
+bodyLengthOf (refused r) = 0
+
+-- a body at the buffer's start; a refused call writes nothing
 abbrev pub overStart : Out Bytes → Bytes → Bytes
-overStart (accepted b) buffer = b ++ drop (length b) buffer
+overStart (accepted b) buffer = over b buffer
 overStart (refused r) buffer = buffer
 
 -- the buffer after the first call: under LFLF the body at its start, and no other byte changes
 unfoldable pub bufferAfter : Bytes → Bytes → Bytes
 bufferAfter t buffer = if inText t then buffer else overStart (findBody t (length buffer)) buffer
 
+-- the part given by the second call
 abbrev pub partOf : Out Bytes → Bool → Bytes → ℕ → Bytes
 partOf (refused r) inside buffer n = []
 partOf (accepted b) inside buffer n = if inside then b else if leb n (length buffer) then take n buffer else []

@@ -19,9 +19,9 @@ pub struct CpimMessage {
     pub bodylen: usize,
 }
 
-// A header alone: length of its value; its parameters and the bytes that they take in the header store.
+// A header alone: length of its value; its parameters; the bytes that it takes in the header store, 0 where nothing is held.
 pub struct CpimHeader {
     pub valuelen: usize,
     pub params: usize,
-    pub paramlen: usize,
+    pub size: usize,
 }
