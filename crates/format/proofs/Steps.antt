@@ -49,6 +49,12 @@ pub bind-passed : {A B : Type 0} (x : Out A) (f : A → Out B) (a : A) → x ≡
 unfolding _>>=_
 bind-passed x f a h = rw h refl
 
+-- a check in front of what is handed on
+pub then-bind : {A B : Type 0} (x : Check) (a : A) (f : A → Out B) → _>>=_ (_>>_ x (accepted a)) f ≡ _>>_ x (f a)
+unfolding _>>=_ _>>_
+then-bind (accepted u) a f = refl
+then-bind (refused r) a f = refl
+
 pub refuseIf-passes : (t : Bool) (r : Refusal) → passes (refuseIf t r) ≡ true → t ≡ false
 unfolding refuseIf passes
 refuseIf-passes true r h = absurd (false≢true h)

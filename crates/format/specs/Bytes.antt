@@ -38,7 +38,7 @@ module _ {A : Type 0} where
   total f [] = 0
   total f (x ∷ xs) = f x + total f xs
 
-  -- the texts of the elements, one inFront another
+  -- the texts of the elements, one behind another
   unfoldable pub texts : (A → Bytes) → List A → Bytes
   texts f [] = []
   texts f (x ∷ xs) = f x ++ texts f xs
@@ -122,7 +122,7 @@ unfoldable pub upTo : ℕ → Bytes → Bytes
 upTo c [] = []
 upTo c (b ∷ s) = if eqb c b then [] else b ∷ upTo c s
 
--- what stands inFront the first c (nothing where there is none)
+-- what stands behind the first c (nothing where there is none)
 unfoldable pub past : ℕ → Bytes → Bytes
 past c [] = []
 past c (b ∷ s) = if eqb c b then s else past c s
@@ -138,7 +138,7 @@ sameLetters [] (b ∷ t) = false
 sameLetters (a ∷ s) [] = false
 sameLetters (a ∷ s) (b ∷ t) = eqb (lower a) (lower b) && sameLetters s t
 
--- The pieces of a text that is split at a separator: the first, and those inFront it.
+-- The pieces of a text that is split at a separator: the first, and those behind it.
 pub record Pieces : Type 0 where
   pub first : Bytes
   pub rest : List Bytes

@@ -67,9 +67,12 @@ ifRoom store m = do
   room store (need m)
   accepted m
 
--- the message with other headers, other content headers, another body
+-- the message with other headers, another type, other content headers, another body
 abbrev pub withHeaders : Message → List Header → Message
 withHeaders m hs = record { headers = hs; type = m .type; contents = m .contents; body = m .body }
+
+abbrev pub withType : Message → Bytes → Message
+withType m t = record { headers = m .headers; type = t; contents = m .contents; body = m .body }
 
 abbrev pub withContents : Message → List Entry → Message
 withContents m es = record { headers = m .headers; type = m .type; contents = es; body = m .body }

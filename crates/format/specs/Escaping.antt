@@ -51,7 +51,7 @@ digitValue c =
     else if leb 97 c && leb c 102 then some (c - 87)
     else if leb 65 c && leb c 70 then some (c - 55) else none
 
--- one more digit inFront a number read so far
+-- one more digit behind a number read so far
 abbrev pub shifted : Option ℕ → Option ℕ → Option ℕ
 shifted none d = none
 shifted (some n) none = none
@@ -62,7 +62,7 @@ unfoldable pub fourDigits : ℕ → ℕ → ℕ → ℕ → Option ℕ
 fourDigits a b c d =
     shifted (shifted (shifted (if eqb a plus then some 0 else digitValue a) (digitValue b)) (digitValue c)) (digitValue d)
 
--- What an escape stands for, and how many bytes inFront the backslash it takes.
+-- What an escape stands for, and how many bytes behind the backslash it takes.
 pub record Escape : Type 0 where
   pub stands : Bytes
   pub takes : ℕ
@@ -91,7 +91,7 @@ shortEscape c =
     else if eqb c 110 then oneByte 10
     else if eqb c 114 then oneByte 13 else none
 
--- the escape that the bytes inFront a backslash begin with
+-- the escape that the bytes behind a backslash begin with
 unfoldable pub escapeAt : Bytes → Option Escape
 escapeAt [] = none
 escapeAt (c ∷ s) = if eqb c 117 then longEscape s else shortEscape c

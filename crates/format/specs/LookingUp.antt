@@ -7,12 +7,10 @@ use lib.Dec.{leb}
 use lib.ListN.{length, take, drop}
 use Rattle.format.specs.Bytes.{Bytes, if_then_else_, total, has, upTo, past, occurs, less-sign, greater-sign, CRLFCRLF, over}
 use Rattle.format.specs.Characters.{isUtf8}
-use Rattle.format.specs.Limits.{maxText}
-use Rattle.format.specs.Refusals.{textTooLong, tooFewSections, Out, accepted, refused, Check, pass, atMost, _>>_, _>>=_}
-use Rattle.format.specs.Validators.{utf8}
+use Rattle.format.specs.Refusals.{Out, accepted, refused, Check, pass, _>>_, _>>=_}
 use Rattle.format.specs.Message.{Entry, LoneHeader, Header, nameOf, Message, only}
 use Rattle.format.specs.Calls.{enough, bodyLength}
-use Rattle.format.specs.Reading.{sections, bodyOf}
+use Rattle.format.specs.Reading.{Parts, textParts}
 
 module _ {A : Type 0} where
   -- the n-th element, n counting from 0
@@ -90,22 +88,12 @@ closed s = if has greater-sign s then some (upTo greater-sign s) else none
 unfoldable pub address : Bytes → Option Bytes
 address v = if has less-sign v then closed (past less-sign v) else none
 
--- Body without a store. The sections from the bodyOfSections, joined: 2 where there are none.
-unfoldable pub bodyOfSections : List Bytes → Out Bytes
-bodyOfSections [] = refused tooFewSections
-bodyOfSections (a ∷ []) = refused tooFewSections
-bodyOfSections (a ∷ b ∷ []) = refused tooFewSections
-bodyOfSections (a ∷ b ∷ c ∷ []) = refused tooFewSections
-bodyOfSections (a ∷ b ∷ c ∷ d ∷ rest) = accepted (bodyOf (d ∷ rest))
-
--- the body of a text: 1, 24, 2, 23
+-- Body without a store: 1, 24, 2, 23.
 unfoldable pub bodyOfText : Bytes → Out Bytes
 bodyOfText t = do
-  atMost maxText textTooLong (length t)
-  utf8 t
-  b ← bodyOfSections (sections t)
-  bodyLength b
-  accepted b
+  p ← textParts t
+  bodyLength (p .body)
+  accepted (p .body)
 
 -- the body is part of the text under CRLFCRLF
 unfoldable pub inText : Bytes → Bool

@@ -53,7 +53,7 @@ nameOf h = h .name
 
 -- Maps run in byte order of their names: lists of elements with a key.
 module _ {A : Type 0} (key : A → Bytes) where
-  -- x inFront all that do not come after it
+  -- x behind all that do not come after it
   unfoldable pub insert : A → List A → List A
   insert x [] = x ∷ []
   insert x (y ∷ ys) = if before (key x) (key y) then x ∷ y ∷ ys else y ∷ insert x ys

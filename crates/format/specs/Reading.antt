@@ -45,7 +45,7 @@ use Rattle.format.specs.Refusals.{
 }
 use Rattle.format.specs.Validators.{isEmpty, headerName, headerValue, contentType, utf8}
 use Rattle.format.specs.Message.{Entry, Header, Message, need}
-use Rattle.format.specs.Calls.{Stores, room, fresh, setParam, append, addContentHeader, setBody}
+use Rattle.format.specs.Calls.{Stores, room, fresh, withType, setParam, append, addContentHeader, setBody}
 
 -- one step for each element, in order, up to the first refusal
 unfoldable pub each : {A B : Type 0} → (A → B → Out B) → List A → B → Out B
@@ -84,8 +84,8 @@ unfoldable pub readValue : Bytes → Out Bytes
 readValue s = checkedValue (unescape (trim s))
 
 -- left of the colon, split at `;`: the name, trimmed and checked, then the parameters
-unfoldable pub readParts : Pieces → Bytes → Out Header
-readParts left right = do
+unfoldable pub readNameAndValue : Pieces → Bytes → Out Header
+readNameAndValue left right = do
   headerName (trim (left .first))
   ps ← each readParam (left .rest) []
   v ← readValue right
@@ -95,15 +95,15 @@ readParts left right = do
 unfoldable pub readHeader : Bytes → Out Header
 readHeader l = do
   refuseIf (not (has colon l)) lacksColon
-  readParts (split (semicolon ∷ []) (upTo colon l)) (past colon l)
+  readNameAndValue (split (semicolon ∷ []) (upTo colon l)) (past colon l)
 
 -- sets the type; the last one wins
 unfoldable pub readType : Bytes → Message → Out Message
 readType v m = do
   contentType v
-  accepted (record { headers = m .headers; type = v; contents = m .contents; body = m .body })
+  accepted (withType m v)
 
--- others: name, value, 22 even when replacing, 25
+-- Content-type in any ASCII case sets the type; others: name, value, 22 even when replacing, 25
 unfoldable pub readNamed : Bytes → Bytes → Stores → Message → Out Message
 readNamed n v stores m = if sameLetters (ascii "Content-type") n then readType v m else addContentHeader n v stores m
 
@@ -119,9 +119,31 @@ blank = fresh (ascii "text/plain") []
 unfoldable pub saysCpim : Bytes → Bool
 saysCpim s = occurs (ascii "message/cpim") (map lower s)
 
--- the sections from the bodyOfSections, joined by CRLFCRLF even for LFLF texts
+-- the sections from the fourth, joined by CRLFCRLF even for LFLF texts
 unfoldable pub bodyOf : List Bytes → Bytes
 bodyOf ss = join CRLFCRLF ss
+
+-- The parts of a text: the first three sections, and the body.
+pub record Parts : Type 0 where
+  pub mime : Bytes
+  pub headers : Bytes
+  pub contents : Bytes
+  pub body : Bytes
+
+-- 2: fewer than 4 sections
+unfoldable pub partsOf : List Bytes → Out Parts
+partsOf [] = refused tooFewSections
+partsOf (a ∷ []) = refused tooFewSections
+partsOf (a ∷ b ∷ []) = refused tooFewSections
+partsOf (a ∷ b ∷ c ∷ []) = refused tooFewSections
+partsOf (a ∷ b ∷ c ∷ d ∷ rest) = accepted (record { mime = a; headers = b; contents = c; body = bodyOf (d ∷ rest) })
+
+-- 1, then 24, then 2
+unfoldable pub textParts : Bytes → Out Parts
+textParts t = do
+  atMost maxText textTooLong (length t)
+  utf8 t
+  partsOf (sections t)
 
 -- The rest asks only for some reader of a header line.
 module _ (reader : Bytes → Out Header) where
@@ -136,28 +158,18 @@ module _ (reader : Bytes → Out Header) where
   readHeaderLine stores l m = if isEmpty l then accepted m else readLine stores l m
 
   -- 3, 25 carrying 256 for a head store under 256 bytes, headers, content headers, body (23, then 26)
-  unfoldable pub readSectionsOf : Bytes → Bytes → Bytes → List Bytes → Stores → Out Message
-  readSectionsOf mime headers contents rest stores = do
-    refuseIf (not (saysCpim mime)) noMessageCpim
+  unfoldable pub readParts : Parts → Stores → Out Message
+  readParts p stores = do
+    refuseIf (not (saysCpim (p .mime))) noMessageCpim
     room (stores .head) (need blank)
-    m ← each (readHeaderLine stores) (lines headers) blank
-    k ← each (readContentLine stores) (lines contents) m
-    setBody (bodyOf rest) stores k
+    m ← each (readHeaderLine stores) (lines (p .headers)) blank
+    k ← each (readContentLine stores) (lines (p .contents)) m
+    setBody (p .body) stores k
 
-  -- 2: fewer than 4 sections
-  unfoldable pub readSections : List Bytes → Stores → Out Message
-  readSections [] stores = refused tooFewSections
-  readSections (a ∷ []) stores = refused tooFewSections
-  readSections (a ∷ b ∷ []) stores = refused tooFewSections
-  readSections (a ∷ b ∷ c ∷ []) stores = refused tooFewSections
-  readSections (a ∷ b ∷ c ∷ d ∷ rest) stores = readSectionsOf a b c (d ∷ rest) stores
-
-  -- 1, then 24
   unfoldable pub readWith : Bytes → Stores → Out Message
   readWith t stores = do
-    atMost maxText textTooLong (length t)
-    utf8 t
-    readSections (sections t) stores
+    p ← textParts t
+    readParts p stores
 
 -- `parse_cpim`
 abbrev pub read : Bytes → Stores → Out Message

@@ -109,7 +109,7 @@ pub utf8-append : (s t : Bytes) → isUtf8 s ≡ true → isUtf8 (s ++ t) ≡ is
 unfolding isUtf8
 utf8-append s t h = rw (chars-append s t h, all-append wellFormed (chars s) (chars t), h) refl
 
--- texts that are each UTF-8 are UTF-8 one inFront another
+-- texts that are each UTF-8 are UTF-8 one behind another
 pub utf8-texts : {A : Type 0} (f : A → Bytes) (xs : List A) → all (λ x. isUtf8 (f x)) xs ≡ true → isUtf8 (texts f xs) ≡ true
 unfolding texts isUtf8 all
 utf8-texts f [] h = rw chars-nil refl
@@ -158,7 +158,7 @@ trailing-cut a s b t h = go (trailOf a) refl
     go none e = refl
     go (some rs) e = matched-cut rs s b t (trail-upper a rs e) h
 
--- any bytes are cut before and inFront a byte below 128
+-- any bytes are cut before and behind a byte below 128
 pub chars-cut : (s : Bytes) (b : ℕ) (t : Bytes) → b < 128 → chars (s ++ (b ∷ t)) ≡ chars s ++ ((b ∷ []) ∷ chars t)
 chars-cut s b t h = cut (length s) s b t (omega arith) h
   where

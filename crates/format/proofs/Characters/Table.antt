@@ -122,7 +122,7 @@ matched-fits (r ∷ rs) [] s h = absurd (false≢true h)
 matched-fits (r ∷ rs) (b ∷ t) s h =
     rw (and-left (within b r) (fits rs t) h) (ap suc (matched-fits rs t s (and-right (within b r) (fits rs t) h)))
 
--- a byte below 128 is never matched, so nothing inFront it counts
+-- a byte below 128 is never matched, so nothing behind it counts
 pub matched-cut : (rs : List Range) (s : Bytes) (b : ℕ) (t : Bytes) → upper rs ≡ true → b < 128 → matched rs (s ++ (b ∷ t)) ≡ matched rs s
 unfolding all matched
 matched-cut [] s b t h k = refl

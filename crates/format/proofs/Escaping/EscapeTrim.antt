@@ -17,7 +17,7 @@ use Rattle.format.proofs.Characters.Chars.{chars-nil, flat-chars, chars
 use Rattle.format.proofs.Characters.Trim.{front-all, back-all}
 use Rattle.format.proofs.Escaping.Escape.{visible, Written, bare, coded, written, escape-char-utf8, unescape-texts}
 
--- Stripping at the ends of two lists of characters, one inFront the other.
+-- Stripping at the ends of two lists of characters, one behind the other.
 module _ (p : Bytes → Bool) where
   front-gone : (xs ys : List Bytes) → all p xs ≡ true → dropFront p (xs ++ ys) ≡ dropFront p ys
   unfolding dropFront

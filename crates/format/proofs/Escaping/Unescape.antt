@@ -24,7 +24,7 @@ unescape-skip zero s = refl
 unescape-skip (suc k) [] = refl
 unescape-skip (suc k) (b ∷ s) = unescape-skip k s
 
--- what stands inFront a text that was read has been read
+-- what stands behind a text that was read has been read
 pub behind-some : (s : Bytes) (o : Option Bytes) (v : Bytes) → inFront s o ≡ some v → (w : Bytes) × (o ≡ some w) × (v ≡ s ++ w)
 behind-some s none v h = absurd (let z : _≡_ {A = ℕ} 0 1 = cc in omega arith)
 behind-some s (some w) v h = (w, refl, cc)
@@ -79,7 +79,7 @@ four-ascii a b c d n h =
     let z = shifted-some _ (digitValue b) (y .0) (y .2) in
     (first-ascii a (z .0) (z .2), digit-ascii b (z .1) (z .3), digit-ascii c (y .1) (y .3), digit-ascii d (x .1) (x .3))
 
--- What holds of an escape that the bytes s inFront a backslash begin with.
+-- What holds of an escape that the bytes s behind a backslash begin with.
 record Sound (s : Bytes) (e : Escape) : Type 0 where
   whole : wellFormed (e .stands) ≡ true
   rest : isUtf8 s ≡ true → isUtf8 (drop (e .takes) s) ≡ true

@@ -204,7 +204,7 @@ module _ {A : Type 0} (key : A → Bytes) where
       in
       increasing-cons x (y ∷ ys) (all-cons (λ z. before (key x) (key z)) y ys e later) h
 
-  -- a name that is not before another, nor the same, is inFront it
+  -- a name that is not before another, nor the same, is behind it
   inFront : (s t : Bytes) → before s t ≡ false → same s t ≡ false → before t s ≡ true
   inFront s t h k = ⊎-elim (λ e. e) (λ e. clash (ap (same s) (before-total t s e h) ∙ same-refl s) k) (bcase (before t s))
 

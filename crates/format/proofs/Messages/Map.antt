@@ -55,7 +55,7 @@ module _ {A : Type 0} (key : A → Bytes) where
           (λ s. ap not s)
           (bcase (same k (key z)))
 
-  -- a new one goes inFront those of its name, and the lists of other names stay
+  -- a new one goes behind those of its name, and the lists of other names stay
   pub only-insert-same : (x : A) (xs : List A) → ascending key xs ≡ true → only key (key x) (insert key x xs) ≡ only key (key x) xs ++ (x ∷ [])
   unfolding insert only
   only-insert-same x [] h = rw (same-refl (key x)) refl
@@ -106,7 +106,7 @@ module _ {A : Type 0} (key : A → Bytes) where
   first-before x y xs ys h f e =
       cons-nil x (only key (key x) xs) (sym (only-same key (key x) x xs (same-refl (key x))) ∙ f ∙ only-before (key x) y ys e h)
 
-  -- inFront equal first elements the lists for each name are equal too
+  -- behind equal first elements the lists for each name are equal too
   rest-same : (x : A) (xs ys : List A) (n : Bytes) → only key n (x ∷ xs) ≡ only key n (x ∷ ys) → only key n xs ≡ only key n ys
   rest-same x xs ys n f = ⊎-elim there other (bcase (same n (key x)))
     where

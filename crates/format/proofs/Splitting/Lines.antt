@@ -1,5 +1,5 @@
 -- A block of lines, each not empty and of bytes 32 or more: CRLFCRLF begins nowhere inside it, because a line stands
--- inFront each of its CRLF, so the block is cut off whole and its lines come back. Assumes nothing.
+-- behind each of its CRLF, so the block is cut off whole and its lines come back. Assumes nothing.
 use mathlib.Core.Path.{_≡_, refl, ap, _∙_}
 use mathlib.Core.Bool.{Bool, true, false, false≢true}
 use mathlib.Core.List.{List, [], _∷_, _++_, append-assoc}
@@ -31,7 +31,7 @@ unfolding any
 lines-cr [] h = refl
 lines-cr (l ∷ ls) h = rw (line-cr l (all-head line l ls h)) (lines-cr ls (all-tail line l ls h))
 
--- a CRLF with a line inFront it begins no CRLFCRLF, and neither does its LF
+-- a CRLF with a line behind it begins no CRLFCRLF, and neither does its LF
 inner : (m : Bytes) (ls : List Bytes) (t : Bytes) → line m ≡ true
     → split CRLFCRLF (CRLF ++ (join CRLF (m ∷ ls) ++ t))
     ≡ record { first = CRLF ++ (split CRLFCRLF (join CRLF (m ∷ ls) ++ t)) .first; rest = (split CRLFCRLF (join CRLF (m ∷ ls) ++ t)) .rest }

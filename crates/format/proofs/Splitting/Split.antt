@@ -97,7 +97,7 @@ some-step c sep b t h ih = ⊎-elim found other (bcase (begins (c ∷ sep) (b �
     other : begins (c ∷ sep) (b ∷ t) ≡ false → (q : Bytes) × (qs : List Bytes) × ((split (c ∷ sep) (b ∷ t)) .rest ≡ q ∷ qs)
     other e = rw (split-other (c ∷ sep) b t e) (ih (rw e at h))
 
--- where the separator occurs there is a piece inFront the first
+-- where the separator occurs there is a piece behind the first
 pub split-some : (c : ℕ) (sep t : Bytes) → occurs (c ∷ sep) t ≡ true
     → (q : Bytes) × (qs : List Bytes) × ((split (c ∷ sep) t) .rest ≡ q ∷ qs)
 unfolding occurs
@@ -120,7 +120,7 @@ split-at c sep t =
     split-found c sep c (sep ++ t) (begins-append (c ∷ sep) t)
     ∙ ap opened (split-skip (length sep) (c ∷ sep) (sep ++ t) ∙ ap (split (c ∷ sep)) (drop-append-seam sep t))
 
--- a line without the separator's first byte is cut off at the separator inFront it
+-- a line without the separator's first byte is cut off at the separator behind it
 pub split-line : (c : ℕ) (sep l t : Bytes) → has c l ≡ false
     → split (c ∷ sep) (l ++ ((c ∷ sep) ++ t)) ≡ record { first = l; rest = pieces (split (c ∷ sep) t) }
 split-line c sep l t h = rw (split-pass c sep l ((c ∷ sep) ++ t) h, split-at c sep t, append-nil l) refl
@@ -148,7 +148,7 @@ pub join-cons : (sep p q : Bytes) (ps : List Bytes) → join sep (p ∷ q ∷ ps
 unfolding join texts
 join-cons sep p q ps = ap (λ (r : Bytes). p ++ r) (append-assoc sep q (texts (λ q. sep ++ q) ps))
 
--- texts each with sep inFront it, and the same with sep between them
+-- texts each with sep behind it, and the same with sep between them
 pub join-texts : (sep l : Bytes) (ls : List Bytes) (u : Bytes) → texts (λ q. q ++ sep) (l ∷ ls) ++ u ≡ join sep (l ∷ ls) ++ (sep ++ u)
 unfolding texts
 join-texts sep l [] u = rw (join-one sep l) (simp (append-nil, append-assoc))

@@ -17,7 +17,7 @@ utf8-nil : isUtf8 [] ≡ true
 unfolding all
 utf8-nil = utf8-ascii-text [] refl
 
--- inFront an ASCII text that follows another, and before it, is UTF-8
+-- behind an ASCII text that follows another, and before it, is UTF-8
 pub utf8-around : (s : Bytes) (c : ℕ) (sep t : Bytes) → all (λ b. ltb b 128) (c ∷ sep) ≡ true → isUtf8 (s ++ ((c ∷ sep) ++ t)) ≡ true
     → (isUtf8 s ≡ true) × (isUtf8 t ≡ true)
 utf8-around s c sep t h u =
@@ -38,7 +38,7 @@ pub split-utf8 : (c : ℕ) (sep t : Bytes) → all (λ b. ltb b 128) (c ∷ sep)
 split-utf8 c sep t h u =
     join-utf8-back c sep ((split (c ∷ sep) t) .first) ((split (c ∷ sep) t) .rest) h (ap isUtf8 (join-split c sep t) ∙ u)
 
--- what stands before and inFront the first c
+-- what stands before and behind the first c
 cut-utf8 : (c : ℕ) (s : Bytes) → c < 128 → isUtf8 s ≡ true → (isUtf8 (upTo c s) ≡ true) × (isUtf8 (past c s) ≡ true)
 cut-utf8 c s h u = ⊎-elim there none (bcase (has c s))
   where

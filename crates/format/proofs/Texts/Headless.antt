@@ -12,7 +12,7 @@ use Rattle.format.specs.Refusals.{tooFewSections, accepted}
 use Rattle.format.specs.Validators.{isEmpty}
 use Rattle.format.specs.Message.{Header, nameOf, Message, insert}
 use Rattle.format.specs.Calls.{Stores}
-use Rattle.format.specs.Reading.{each, separator, sections, lineEnd, lines, bodyOf, blank, readHeader, readHeaderLine, readSectionsOf, readSections, readWith, read}
+use Rattle.format.specs.Reading.{each, separator, sections, lineEnd, lines, bodyOf, blank, readHeader, readHeaderLine, Parts, partsOf, textParts, readParts, readWith, read}
 use Rattle.format.specs.Writing.{contentLine, typeLine, firstLine, ended, write}
 use Rattle.format.specs.Demand3.{hasHeader}
 use Rattle.format.proofs.Lists.{bcase}
@@ -25,7 +25,7 @@ use Rattle.format.proofs.Texts.ReadOver.{empty-skipped, header-added, c
 abbrev letter : ℕ
 letter = 67
 
--- the sections of a text whose first line has two empty lines inFront it, then the letter
+-- the sections of a text whose first line has two empty lines behind it, then the letter
 headless-sections : (u : Bytes) → sections (firstLine ++ (CRLFCRLF ++ (CRLF ++ (letter ∷ u))))
     ≡ firstLine ∷ (CRLF ++ (letter ∷ (split CRLFCRLF u) .first)) ∷ (split CRLFCRLF u) .rest
 unfolding sections separator begins any
@@ -84,31 +84,31 @@ has-read st l ls a c e =
     has-kept st ls (k .0) c (line-has st (letter ∷ l) (j .0) (k .0) refl (k .1)) (k .2)
 
 -- neither the content section nor the body takes a header away
-sections-has : (a b s : Bytes) (rest : List Bytes) (st : Stores) (k : Message) → readSectionsOf readHeader a (CRLF ++ (letter ∷ s)) b rest st ≡ accepted k
+parts-has : (p : Parts) (s : Bytes) (st : Stores) (k : Message) → p .headers ≡ CRLF ++ (letter ∷ s) → readParts readHeader p st ≡ accepted k
     → hasHeader (k .headers) ≡ true
-unfolding readSectionsOf
-sections-has a b s rest st k e =
+unfolding readParts
+parts-has p s st k q e =
     let h1 = then-accepted _ _ _ e in
     let h2 = then-accepted _ _ _ (h1 .0) in
     let h3 = bind-accepted _ _ _ (h2 .0) in
     let h4 = bind-accepted _ _ _ (h3 .2) in
-    let ls = sym (ap (λ (x : List Bytes). each (readHeaderLine readHeader st) x blank) (headless-lines s)) ∙ h3 .1 in
+    let ls = sym (ap (λ (x : List Bytes). each (readHeaderLine readHeader st) x blank) (ap lines q ∙ headless-lines s)) ∙ h3 .1 in
     let h = has-read st ((split CRLF s) .first) ((split CRLF s) .rest) blank (h3 .0) ls in
-    rw ((setBody-accepted (bodyOf rest) st (h4 .0) k (h4 .2)) .0, content-headers st (lines b) (h3 .0) (h4 .0) (h4 .1)) h
+    rw ((setBody-accepted (p .body) st (h4 .0) k (h4 .2)) .0, content-headers st (lines (p .contents)) (h3 .0) (h4 .0) (h4 .1)) h
 
-read-has : (a s : Bytes) (rest : List Bytes) (st : Stores) (k : Message) → readSections readHeader (a ∷ (CRLF ++ (letter ∷ s)) ∷ rest) st ≡ accepted k
-    → hasHeader (k .headers) ≡ true
-unfolding readSections
-read-has a s [] st k e = refused-accepted tooFewSections k e
-read-has a s (b ∷ []) st k e = refused-accepted tooFewSections k e
-read-has a s (b ∷ c ∷ rest) st k e = sections-has a b s (c ∷ rest) st k e
+second : (a b : Bytes) (rest : List Bytes) (p : Parts) → partsOf (a ∷ b ∷ rest) ≡ accepted p → p .headers ≡ b
+unfolding partsOf
+second a b [] p e = refused-accepted tooFewSections p e
+second a b (c ∷ []) p e = refused-accepted tooFewSections p e
+second a b (c ∷ d ∷ rest) p e = ap (λ (x : Parts). x .headers) (sym (accepted-same _ p e))
 
 -- What is read of the text of a message without a header has one.
 pub headless-read : (m k : Message) (st : Stores) → m .headers ≡ [] → read (write m) st ≡ accepted k → hasHeader (k .headers) ≡ true
-unfolding readWith
+unfolding readWith textParts
 headless-read m k st n e =
-    let h1 = then-accepted _ _ _ e in
+    let a = bind-accepted _ _ _ e in
+    let h1 = then-accepted _ _ _ (a .1) in
     let h2 = then-accepted _ _ _ (h1 .0) in
     let w = headless-write m n in
-    let s = sym (ap (λ (x : List Bytes). readSections readHeader x st) (ap sections (w .1) ∙ headless-sections (w .0))) ∙ h2 .0 in
-    read-has firstLine ((split CRLFCRLF (w .0)) .first) ((split CRLFCRLF (w .0)) .rest) st k s
+    let s = sym (ap partsOf (ap sections (w .1) ∙ headless-sections (w .0))) ∙ h2 .0 in
+    parts-has (a .0) ((split CRLFCRLF (w .0)) .first) st k (second firstLine _ _ (a .0) s) (a .2)

@@ -56,7 +56,7 @@ module _ {A : Type 0} (key : A → Bytes) where
         without-last y xs (all-tail (λ x. before (key x) (key y)) x xs h),
       ) refl
 
--- a value set under a name inFront all others goes to the end
+-- a value set under a name behind all others goes to the end
 pub put-last : (e : Entry) (es : List Entry) → all (λ x. before (x .name) (e .name)) es ≡ true → put e es ≡ es ++ (e ∷ [])
 unfolding put
 put-last e es h =

@@ -1,4 +1,4 @@
--- Reading one written line: the first colon is the one inFront the name, since a name holds none; a space inFront it is trimmed away,
+-- Reading one written line: the first colon is the one behind the name, since a name holds none; a space behind it is trimmed away,
 -- and an escaped value comes back without the white space at its ends that is no control character. Assumes nothing.
 use Prim.Native.Nat.{ℕ}
 use mathlib.Core.Path.{_≡_, refl, sym, ap, _∙_}
@@ -32,7 +32,7 @@ use Rattle.format.specs.Validators.{reservedInName, headerName, headerVa
 use Rattle.format.specs.Message.{Entry, Header, Message, validHeader, validContent}
 use Rattle.format.specs.Calls.{Stores}
 use Rattle.format.specs.Writing.{paramText, headerLine, contentLine, typeLine}
-use Rattle.format.specs.Reading.{each, checkedValue, readValue, readParts, readHeader, readType, readNamed, readContentLine}
+use Rattle.format.specs.Reading.{each, checkedValue, readValue, readNameAndValue, readHeader, readType, readNamed, readContentLine}
 use Rattle.format.proofs.Lists.{or-false-left, or-false-right}
 use Rattle.format.proofs.Characters.Chars.{chars-ascii}
 use Rattle.format.proofs.Splitting.Split.{split-none, occurs-clear, has-at, upTo-at, past-at}
@@ -70,7 +70,7 @@ pub trim-space : (s : Bytes) → trim (space ∷ s) ≡ trim s
 unfolding trimBy dropFront
 trim-space s = rw (chars-ascii space s (omega arith), space-white) refl
 
--- what is inFront the name of a header's line: the parameters, a space, the escaped value
+-- what is behind the name of a header's line: the parameters, a space, the escaped value
 abbrev pub behindColon : Header → Bytes
 behindColon h = texts paramText (h .params) ++ (ascii " " ++ escape (h .value))
 
@@ -81,7 +81,7 @@ pub read-header-line : (h : Header) → validHeader h ≡ true
       headerName (trim (h .name))
       v ← readValue (behindColon h)
       accepted (record { name = trim (h .name); value = v; params = [] })
-unfolding readHeader headerLine readParts each _>>=_
+unfolding readHeader headerLine readNameAndValue each _>>=_
 read-header-line h v =
     let w = header-parts h v in
     let c = name-colon (h .name) (w .named) in

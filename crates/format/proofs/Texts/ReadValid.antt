@@ -42,7 +42,7 @@ use Rattle.format.specs.Reading.{
   readParam,
   checkedValue,
   readValue,
-  readParts,
+  readNameAndValue,
   readHeader,
   readType,
   readNamed,
@@ -51,8 +51,10 @@ use Rattle.format.specs.Reading.{
   bodyOf,
   readLine,
   readHeaderLine,
-  readSectionsOf,
-  readSections,
+  Parts,
+  partsOf,
+  textParts,
+  readParts,
   readWith,
   read,
 }
@@ -77,7 +79,7 @@ pub lines-utf8 : (s : Bytes) → isUtf8 s ≡ true → all isUtf8 (lines s) ≡ 
 unfolding lines lineEnd all
 lines-utf8 s u = ⊎-elim (λ e. rw e (split-utf8 _ _ s refl u)) (λ e. rw e (split-utf8 _ _ s refl u)) (bcase (occurs CRLF s))
 
--- what stands before and inFront the first c, trimmed
+-- what stands before and behind the first c, trimmed
 front-utf8 : (c : ℕ) (l : Bytes) → suc c ≤ 128 → isUtf8 l ≡ true → isUtf8 (trim (upTo c l)) ≡ true
 front-utf8 c l h u = trim-utf8 isWhite (upTo c l) (upTo-utf8 c l h u)
 
@@ -109,8 +111,8 @@ readValue-within s v u h =
     (unescape-utf8 (trim s) v (trim-utf8 isWhite s u) (a .0), a .1)
 
 readParts-valid : (left : Pieces) (right : Bytes) (h : Header) → all isUtf8 (pieces left) ≡ true → isUtf8 right ≡ true
-    → readParts left right ≡ accepted h → validHeader h ≡ true
-unfolding readParts
+    → readNameAndValue left right ≡ accepted h → validHeader h ≡ true
+unfolding readNameAndValue
 readParts-valid left right h u x e =
     let a = then-accepted _ _ _ e in
     let b = bind-accepted _ _ _ (a .0) in
@@ -184,6 +186,26 @@ readContentLine-fits st l m k u f h =
     (λ e g. rw (accepted-same m k g) at f)
     h
 
+-- the parts of a UTF-8 text are UTF-8
+partsOf-utf8 : (ss : List Bytes) (p : Parts) → all isUtf8 ss ≡ true → partsOf ss ≡ accepted p → (isUtf8 (p .headers) ≡ true) × (isUtf8 (p .contents) ≡ true)
+unfolding partsOf
+partsOf-utf8 [] p u h = refused-accepted tooFewSections p h
+partsOf-utf8 (a ∷ []) p u h = refused-accepted tooFewSections p h
+partsOf-utf8 (a ∷ b ∷ []) p u h = refused-accepted tooFewSections p h
+partsOf-utf8 (a ∷ b ∷ c ∷ []) p u h = refused-accepted tooFewSections p h
+partsOf-utf8 (a ∷ b ∷ c ∷ d ∷ rest) p u h =
+    let u1 = all-tail isUtf8 a (b ∷ c ∷ d ∷ rest) u in
+    let u2 = all-tail isUtf8 b (c ∷ d ∷ rest) u1 in
+    let e = accepted-same _ p h in
+    rw (← e) (all-head isUtf8 b (c ∷ d ∷ rest) u1, all-head isUtf8 c (d ∷ rest) u2)
+
+textParts-utf8 : (t : Bytes) (p : Parts) → textParts t ≡ accepted p → (isUtf8 (p .headers) ≡ true) × (isUtf8 (p .contents) ≡ true)
+unfolding textParts
+textParts-utf8 t p h =
+    let h1 = then-accepted _ _ _ h in
+    let h2 = then-accepted _ _ _ (h1 .0) in
+    partsOf-utf8 (sections t) p (sections-utf8 t (utf8-passes t (h2 .1))) (h2 .0)
+
 -- Above the reader of a header line: any reader that gives headers within limits.
 module _ (r : Bytes → Out Header) (good : (l : Bytes) (h : Header) → isUtf8 l ≡ true → r l ≡ accepted h → validHeader h ≡ true) where
   readLine-fits : (st : Stores) (l : Bytes) (m k : Message) → isUtf8 l ≡ true → Fits (st .head) m → readLine r st l m ≡ accepted k → Fits (st .head) k
@@ -201,42 +223,30 @@ module _ (r : Bytes → Out Header) (good : (l : Bytes) (h : Header) → isUtf8 
   readHeaderLine-fits st l m k u f h =
       if-accepted (isEmpty l) _ _ k (λ e g. rw (accepted-same m k g) at f) (λ e g. readLine-fits st l m k u f g) h
 
-  readSectionsOf-fits : (mime headers contents : Bytes) (rest : List Bytes) (st : Stores) (m : Message) → isUtf8 headers ≡ true
-      → isUtf8 contents ≡ true → readSectionsOf r mime headers contents rest st ≡ accepted m → (Fits (st .head) m) × (length (m .body) ≤ st .body)
-  unfolding readSectionsOf need
-  readSectionsOf-fits mime headers contents rest st m u x h =
+  readParts-fits : (p : Parts) (st : Stores) (m : Message) → isUtf8 (p .headers) ≡ true → isUtf8 (p .contents) ≡ true
+      → readParts r p st ≡ accepted m → (Fits (st .head) m) × (length (m .body) ≤ st .body)
+  unfolding readParts need
+  readParts-fits p st m u x h =
       let h1 = then-accepted _ _ _ h in
       let h2 = then-accepted _ _ _ (h1 .0) in
       let h3 = bind-accepted _ _ _ (h2 .0) in
       let h4 = bind-accepted _ _ _ (h3 .2) in
       let f : Fits (st .head) blank = record { within = blank-within; roomy = room-passes (st .head) (need blank) (h2 .1) } in
-      let g = each-keeps (Fits (st .head)) isUtf8 (readHeaderLine r st) (readHeaderLine-fits st) (lines headers) blank (h3 .0) (lines-utf8 headers u) f (h3 .1) in
+      let g = each-keeps (Fits (st .head)) isUtf8 (readHeaderLine r st) (readHeaderLine-fits st) (lines (p .headers)) blank (h3 .0) (lines-utf8 (p .headers) u) f (h3 .1) in
       let k =
-      each-keeps (Fits (st .head)) isUtf8 (readContentLine st) (readContentLine-fits st) (lines contents) (h3 .0) (h4 .0) (lines-utf8 contents x) g
+      each-keeps (Fits (st .head)) isUtf8 (readContentLine st) (readContentLine-fits st) (lines (p .contents)) (h3 .0) (h4 .0) (lines-utf8 (p .contents) x) g
       (h4 .1)
       in
-      let b = setBody-accepted (bodyOf rest) st (h4 .0) m (h4 .2) in
-      let w = setBody-within st (h4 .0) m (k .within) (bodyOf rest) (h4 .2) in
+      let b = setBody-accepted (p .body) st (h4 .0) m (h4 .2) in
+      let w = setBody-within st (h4 .0) m (k .within) (p .body) (h4 .2) in
       (record { within = w; roomy = rw (b .0) (k .roomy) }, rw (b .0) (b .2))
-
-  readSections-fits : (ss : List Bytes) (st : Stores) (m : Message) → all isUtf8 ss ≡ true → readSections r ss st ≡ accepted m
-      → (Fits (st .head) m) × (length (m .body) ≤ st .body)
-  unfolding readSections all
-  readSections-fits [] st m u h = refused-accepted tooFewSections m h
-  readSections-fits (a ∷ []) st m u h = refused-accepted tooFewSections m h
-  readSections-fits (a ∷ b ∷ []) st m u h = refused-accepted tooFewSections m h
-  readSections-fits (a ∷ b ∷ c ∷ []) st m u h = refused-accepted tooFewSections m h
-  readSections-fits (a ∷ b ∷ c ∷ d ∷ rest) st m u h =
-      let u1 = all-tail isUtf8 a (b ∷ c ∷ d ∷ rest) u in
-      let u2 = all-tail isUtf8 b (c ∷ d ∷ rest) u1 in
-      readSectionsOf-fits a b c (d ∷ rest) st m (all-head isUtf8 b (c ∷ d ∷ rest) u1) (all-head isUtf8 c (d ∷ rest) u2) h
 
   readWith-fits : (t : Bytes) (st : Stores) (m : Message) → readWith r t st ≡ accepted m → (Fits (st .head) m) × (length (m .body) ≤ st .body)
   unfolding readWith
   readWith-fits t st m h =
-      let h1 = then-accepted _ _ _ h in
-      let h2 = then-accepted _ _ _ (h1 .0) in
-      readSections-fits (sections t) st m (sections-utf8 t (utf8-passes t (h2 .1))) (h2 .0)
+      let a = bind-accepted _ _ _ h in
+      let u = textParts-utf8 t (a .0) (a .1) in
+      readParts-fits (a .0) st m (u .0) (u .1) (a .2)
 
   pub readWith-valid : (t : Bytes) (st : Stores) (m : Message) → readWith r t st ≡ accepted m → valid m ≡ true
   readWith-valid t st m h = message-whole m ((readWith-fits t st m h) .0 .within)

@@ -9,19 +9,19 @@ use Rattle.format.specs.Bytes.{Bytes, ascii, cr, lf, CRLF, CRLFCRLF, all
 use Rattle.format.specs.Characters.{isAsciiControl, isUtf8, replaced}
 use Rattle.format.specs.Escaping.{escape}
 use Rattle.format.specs.Limits.{maxText}
-use Rattle.format.specs.Refusals.{Out, textTooLong, noMessageCpim, notUtf8, atMost, refuseIf, passes, _>>_, _>>=_}
+use Rattle.format.specs.Refusals.{accepted, Out, textTooLong, noMessageCpim, notUtf8, atMost, refuseIf, passes, _>>_, _>>=_}
 use Rattle.format.specs.Validators.{isEmpty, reservedInParamName, reservedInParamValue, utf8}
 use Rattle.format.specs.Message.{Entry, Header, Message, need, validParam, validHeader, validContent, validType, valid}
 use Rattle.format.specs.Calls.{Stores, room, setBody}
 use Rattle.format.specs.Writing.{paramText, headerLine, contentLine, typeLine, firstLine, ended, write}
-use Rattle.format.specs.Reading.{each, separator, sections, lineEnd, lines, saysCpim, bodyOf, blank, readContentLine, readHeaderLine, readSectionsOf, readSections, readWith}
+use Rattle.format.specs.Reading.{each, separator, sections, lineEnd, lines, saysCpim, bodyOf, blank, readContentLine, readHeaderLine, Parts, partsOf, textParts, readParts, readWith}
 use Rattle.format.proofs.Lists.{and-intro, or-false-left, all-append, all-head, all-tail, all-cons, all-map, all-texts}
 use Rattle.format.proofs.Characters.Chars.{utf8-append, utf8-ascii-text, utf8-texts}
 use Rattle.format.proofs.Characters.Replaced.{replaced-utf8}
 use Rattle.format.proofs.Splitting.Split.{join-split, split-line, occurs-at}
 use Rattle.format.proofs.Splitting.Lines.{line, section-cut, lines-many, lines-one, join-block}
 use Rattle.format.proofs.Escaping.Escape.{escape-utf8, escape-printable}
-use Rattle.format.proofs.Steps.{then-passed, refuseUnless-passed}
+use Rattle.format.proofs.Steps.{then-bind, then-passed, refuseUnless-passed}
 use Rattle.format.proofs.Messages.Checked.{name-checked, type-checked, content-checked, param-name-checked, param-value-checked, none-all, printable, all-printable}
 use Rattle.format.proofs.Messages.Parts.{type-whole, param-parts, header-parts, content-parts, message-parts, type-parts}
 
@@ -88,7 +88,7 @@ unfolding texts
 texts-map f g [] = refl
 texts-map f g (x ∷ xs) = rw (texts-map f g xs) refl
 
--- texts each with CRLF inFront it, then an empty line, by blocks
+-- texts each with CRLF behind it, then an empty line, by blocks
 blocked : {A : Type 0} (f : A → Bytes) (x : A) (xs : List A) (t : Bytes)
     → texts (λ y. ended (f y)) (x ∷ xs) ++ (CRLF ++ t) ≡ join CRLF (map f (x ∷ xs)) ++ (CRLFCRLF ++ t)
 blocked f x xs t = rw (texts-map f ended (x ∷ xs)) (join-block (map f xs) (f x) t)
@@ -215,21 +215,38 @@ text-passes : (m : Message) → valid m ≡ true → passes (utf8 (write m)) ≡
 unfolding utf8
 text-passes m v = refuseUnless-passed (isUtf8 (write m)) notUtf8 (write-utf8 m v)
 
--- the sections of blocks of lines
+-- the parts of T
+abbrev writtenParts : Message → Parts
+writtenParts m =
+    record {
+      mime = firstLine;
+      headers = join CRLF (map headerLine (m .headers));
+      contents = join CRLF (typeLine (m .type) ∷ map contentLine (m .contents));
+      body = replaced (m .body);
+    }
+
+write-parts : (m : Message) (h : Header) (hs : List Header) → valid m ≡ true → m .headers ≡ h ∷ hs
+    → textParts (write m) ≡ _>>_ (atMost maxText textTooLong (length (write m))) (accepted (writtenParts m))
+unfolding textParts partsOf
+write-parts m h hs v e =
+    ap (λ (x : Out Parts). _>>_ (atMost maxText textTooLong (length (write m))) x)
+    (then-passed (utf8 (write m)) (partsOf (sections (write m))) (text-passes m v)
+    ∙ rw (write-sections m h hs v e, body-joined (replaced (m .body)), e) refl)
+
+-- the parts of blocks of lines
 read-blocks : (reader : Bytes → Out Header) (l k : Bytes) (ls ks : List Bytes) (b : Bytes) (st : Stores) → all line (l ∷ ls) ≡ true → all line (k ∷ ks) ≡ true
-    → readSections reader (firstLine ∷ join CRLF (l ∷ ls) ∷ join CRLF (k ∷ ks) ∷ pieces (split CRLFCRLF b)) st
+    → readParts reader (record { mime = firstLine; headers = join CRLF (l ∷ ls); contents = join CRLF (k ∷ ks); body = b }) st
     ≡ do
       room (st .head) (need blank)
       m ← each (readHeaderLine reader st) (l ∷ ls) blank
       n ← each (readContentLine st) (k ∷ ks) m
       setBody b st n
-unfolding readSections readSectionsOf
+unfolding readParts
 read-blocks reader l k ls ks b st h i =
     rw (
       then-passed (refuseIf (not (saysCpim firstLine)) noMessageCpim) _ (refuseUnless-passed (saysCpim firstLine) noMessageCpim first-line-says),
       block-lines l ls h,
       block-lines k ks i,
-      body-joined b,
     ) refl
 
 -- Reading T, with any reader of a header line, is reading its lines and its body.
@@ -244,9 +261,10 @@ pub read-written : (reader : Bytes → Out Header) (m : Message) (h : Header) (h
 unfolding readWith
 read-written reader m h hs st v e =
     let w = message-parts m v in
-    ap (λ (x : Out Message). _>>_ (atMost maxText textTooLong (length (write m))) x)
-    (then-passed (utf8 (write m)) (readSections reader (sections (write m)) st) (text-passes m v)
-    ∙ rw (write-sections m h hs v e)
+    rw (write-parts m h hs v e)
+    (then-bind (atMost maxText textTooLong (length (write m))) (writtenParts m) (λ p. readParts reader p st)
+    ∙ ap (λ (x : Out Message). _>>_ (atMost maxText textTooLong (length (write m))) x)
+    (rw e
     (read-blocks reader (headerLine h) (typeLine (m .type)) (map headerLine hs) (map contentLine (m .contents)) (replaced (m .body)) st
     (header-lines-are (h ∷ hs) (sym (ap (all validHeader) e) ∙ w .headers .each))
-    (all-cons line (typeLine (m .type)) (map contentLine (m .contents)) (type-line-is (m .type) (type-whole (m .type) (w .type))) (content-lines-are (m .contents) (w .contents .each)))))
+    (all-cons line (typeLine (m .type)) (map contentLine (m .contents)) (type-line-is (m .type) (type-whole (m .type) (w .type))) (content-lines-are (m .contents) (w .contents .each))))))
