@@ -23,6 +23,11 @@ module _ {A : Type 0} where
   if true then x else y = x
   if false then x else y = y
 
+  -- there is no element
+  unfoldable pub isEmpty : List A → Bool
+  isEmpty [] = true
+  isEmpty (x ∷ xs) = false
+
   -- every element passes the test
   unfoldable pub all : (A → Bool) → List A → Bool
   all p [] = true

@@ -7,7 +7,7 @@ use mathlib.Core.Logic.{_↔_}
 use mathlib.Core.List.{List, [], _∷_}
 use mathlib.Core.Option.{Option, none, some}
 use lib.ListN.{length}
-use Rattle.format.specs.Bytes.{Bytes, ascii, all, sameLetters, over}
+use Rattle.format.specs.Bytes.{Bytes, ascii, isEmpty, all, sameLetters, over}
 use Rattle.format.specs.Characters.{isUtf8, isWhite, isLost, clearEnds}
 use Rattle.format.specs.Refusals.{Out, accepted, refused, _carrying_}
 use Rattle.format.specs.Message.{Entry, Header, Message, need, validAlone}
@@ -42,16 +42,11 @@ use Rattle.format.specs.declared.Numbers.{Numbers}
 
 -- a header
 unfoldable pub hasHeader : List Header → Bool
-hasHeader [] = false
-hasHeader (h ∷ hs) = true
+hasHeader hs = not (isEmpty hs)
 
 -- no header parameter
-unfoldable pub noEntry : List Entry → Bool
-noEntry [] = true
-noEntry (p ∷ ps) = false
-
 unfoldable pub noParam : Header → Bool
-noParam h = noEntry (h .params)
+noParam h = isEmpty (h .params)
 
 -- no content header called Content-type in any ASCII case
 unfoldable pub notType : Entry → Bool

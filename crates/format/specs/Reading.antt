@@ -5,6 +5,7 @@ use mathlib.Core.List.{List, [], _∷_, _++_, map}
 use mathlib.Core.Option.{Option, none, some}
 use lib.ListN.{length}
 use Rattle.format.specs.Bytes.{
+  isEmpty,
   Bytes,
   ascii,
   if_then_else_,
@@ -43,7 +44,7 @@ use Rattle.format.specs.Refusals.{
   _>>_,
   _>>=_,
 }
-use Rattle.format.specs.Validators.{isEmpty, headerName, headerValue, contentType, utf8}
+use Rattle.format.specs.Validators.{headerName, headerValue, contentType, utf8}
 use Rattle.format.specs.Message.{Entry, Header, Message, need}
 use Rattle.format.specs.Calls.{Stores, room, fresh, withType, setParam, append, addContentHeader, setBody}
 

@@ -3,7 +3,7 @@ use Prim.Native.Nat.{ℕ}
 use mathlib.Core.Bool.{Bool, true, false, not, _||_}
 use mathlib.Core.List.{List, [], _∷_}
 use lib.ListN.{length}
-use Rattle.format.specs.Bytes.{Bytes, ascii, any, has}
+use Rattle.format.specs.Bytes.{Bytes, ascii, isEmpty, any, has}
 use Rattle.format.specs.Characters.{isAsciiControl, isUtf8}
 use Rattle.format.specs.Limits.{maxName, maxValue, maxParamName, maxParamValue, maxType}
 use Rattle.format.specs.Refusals.{
@@ -28,10 +28,6 @@ use Rattle.format.specs.Refusals.{
   atMost,
   _>>_,
 }
-
-unfoldable pub isEmpty : Bytes → Bool
-isEmpty [] = true
-isEmpty (b ∷ s) = false
 
 -- one of `: ; = \ "`
 unfoldable pub reservedInName : ℕ → Bool

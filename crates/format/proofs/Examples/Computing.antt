@@ -1,5 +1,5 @@
 -- To unfold `computing` is to unfold every definition that an example computes with. Assumes nothing.
-use Rattle.format.specs.Bytes.{all, any, total, texts, same, before, begins, occurs, upTo, past, lower, sameLetters, splitFrom, join}
+use Rattle.format.specs.Bytes.{isEmpty, all, any, total, texts, same, before, begins, occurs, upTo, past, lower, sameLetters, splitFrom, join}
 use Rattle.format.specs.Characters.{
   trailIn,
   fits,
@@ -35,19 +35,7 @@ use Rattle.format.specs.Escaping.{
   unescapeFrom,
 }
 use Rattle.format.specs.Refusals.{table, numbers, _>>=_, _>>_, refuseIf, atMost}
-use Rattle.format.specs.Validators.{
-  isEmpty,
-  reservedInName,
-  reservedInParamName,
-  reservedInParamValue,
-  headerName,
-  headerValue,
-  contentValue,
-  paramName,
-  paramValue,
-  contentType,
-  utf8,
-}
+use Rattle.format.specs.Validators.{reservedInName, reservedInParamName, reservedInParamValue, headerName, headerValue, contentValue, paramName, paramValue, contentType, utf8}
 use Rattle.format.specs.Message.{insert, without, only, put, needEntry, needAlone, needHeader, need}
 use Rattle.format.specs.Calls.{
   room,

@@ -6,7 +6,7 @@ use mathlib.Core.List.{List, [], _∷_}
 use lib.Dec.{leb, ltb, eqb}
 use lib.ListN.{length}
 use borrow.Author.Tests.{le-leb, ltb-false}
-use Rattle.format.specs.Bytes.{Bytes, all, any}
+use Rattle.format.specs.Bytes.{isEmpty, Bytes, all, any}
 use Rattle.format.specs.Characters.{isAsciiControl}
 use Rattle.format.specs.Limits.{maxName, maxValue, maxParamName, maxParamValue, maxType}
 use Rattle.format.specs.Refusals.{
@@ -29,7 +29,7 @@ use Rattle.format.specs.Refusals.{
   passes,
   _>>_,
 }
-use Rattle.format.specs.Validators.{isEmpty, reservedInName, reservedInParamName, reservedInParamValue, headerName, headerValue, contentValue, paramName, paramValue, contentType}
+use Rattle.format.specs.Validators.{reservedInName, reservedInParamName, reservedInParamValue, headerName, headerValue, contentValue, paramName, paramValue, contentType}
 use Rattle.format.proofs.Lists.{or-false-left, or-false-right, all-cons}
 use Rattle.format.proofs.Steps.{then-passes, refuseIf-passes, atMost-passes}
 

@@ -6,10 +6,9 @@ use mathlib.Core.Bool.{true, false}
 use mathlib.Core.Logic.{⊎-elim}
 use mathlib.Core.List.{List, [], _∷_, _++_}
 use lib.ListN.{drop}
-use Rattle.format.specs.Bytes.{Bytes, cr, lf, LF, CRLF, CRLFCRLF, any, texts, before, begins, split}
+use Rattle.format.specs.Bytes.{isEmpty, Bytes, cr, lf, LF, CRLF, CRLFCRLF, any, texts, before, begins, split}
 use Rattle.format.specs.Characters.{replaced}
 use Rattle.format.specs.Refusals.{tooFewSections, accepted}
-use Rattle.format.specs.Validators.{isEmpty}
 use Rattle.format.specs.Message.{Header, nameOf, Message, insert}
 use Rattle.format.specs.Calls.{Stores}
 use Rattle.format.specs.Reading.{each, separator, sections, lineEnd, lines, bodyOf, blank, readHeader, readHeaderLine, Parts, partsOf, textParts, readParts, readWith, read}
@@ -52,7 +51,7 @@ headless-write m e =
 
 -- a header inserted is there
 insert-has : (h : Header) (hs : List Header) → hasHeader (insert nameOf h hs) ≡ true
-unfolding insert hasHeader
+unfolding insert hasHeader isEmpty
 insert-has h [] = refl
 insert-has h (k ∷ hs) = ⊎-elim (λ e. rw e refl) (λ e. rw e refl) (bcase (before (h .name) (k .name)))
 

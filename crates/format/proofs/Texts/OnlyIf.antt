@@ -7,7 +7,7 @@ use mathlib.Core.Bool.{Bool, true, _&&_}
 use mathlib.Core.List.{List, [], _∷_, map}
 use native.Mathlib.Omega.{arith}
 use lib.ListN.{length}
-use Rattle.format.specs.Bytes.{all, total}
+use Rattle.format.specs.Bytes.{isEmpty, all, total}
 use Rattle.format.specs.Characters.{replaced, isUtf8, isWhite, trim, clearEnds}
 use Rattle.format.specs.Refusals.{accepted}
 use Rattle.format.specs.Message.{Header, Message, needEntry, needHeader, validHeader, validContent, valid}
@@ -99,7 +99,7 @@ module _ (m : Message) (st : Stores) (v : valid m ≡ true) (a b : Message)
 
 -- with no header, or with some
 by-headers : (m : Message) (st : Stores) (hs : List Header) → m .headers ≡ hs → valid m ≡ true → read (write m) st ≡ accepted m → comesBack m ≡ true
-unfolding hasHeader
+unfolding hasHeader isEmpty
 by-headers m st [] n v e = clash (headless-read m m st n e) (ap hasHeader n)
 by-headers m st (h ∷ hs) n v e =
     let r = sym (read-written readHeader m h hs st v n) ∙ e in

@@ -8,17 +8,17 @@ use native.Mathlib.Omega.{arith}
 use lib.Dec.{ltb}
 use lib.ListN.{length, length-append}
 use borrow.Author.Tests.{not-true, le-ltb}
-use Rattle.format.specs.Bytes.{Bytes, ascii, all, total, before, sameLetters}
+use Rattle.format.specs.Bytes.{isEmpty, Bytes, ascii, all, total, before, sameLetters}
 use Rattle.format.specs.Characters.{isWhite, isLost, clearEnds}
 use Rattle.format.specs.Limits.{maxBody, maxHeaders, maxContents}
 use Rattle.format.specs.Refusals.{tooManyHeaders, tooManyContents, bodyTooLong, noRoom, tooShort, accepted, refuseIf, atMost}
-use Rattle.format.specs.Validators.{isEmpty, headerName, contentValue, contentType}
+use Rattle.format.specs.Validators.{headerName, contentValue, contentType}
 use Rattle.format.specs.Message.{Entry, entryName, Header, nameOf, Message, ascending, increasing, validHeader, validContent, validType, needEntry, needHeader, need}
 use Rattle.format.specs.Calls.{Stores, room, bodyLength, headerCount, contentCount, ifRoom, append, addContentHeader, setBody}
 use Rattle.format.specs.Calls as Calls
 use Rattle.format.specs.Writing.{headerLine, contentLine, typeLine}
 use Rattle.format.specs.Reading.{each, readHeader, readType, readNamed, readContentLine, readLine, readHeaderLine}
-use Rattle.format.specs.Demand3.{noEntry, noParam, notType, clearName, clearContent, clearValue}
+use Rattle.format.specs.Demand3.{noParam, notType, clearName, clearContent, clearValue}
 use Rattle.format.proofs.Lists.{and-left, and-right, all-head, all-tail, total-append}
 use Rattle.format.proofs.Splitting.Lines.{line}
 use Rattle.format.proofs.Texts.Last.{insert-last, ascending-last, increasing-last, put-last}
@@ -31,10 +31,10 @@ use Rattle.format.proofs.Texts.ReadLine.{read-header-plain, read-conten
 -- One entry.
 
 pub no-params : (h : Header) → noParam h ≡ true → h .params ≡ []
-unfolding noParam noEntry
+unfolding noParam isEmpty
 no-params h n = go (h .params) n
   where
-    go : (ps : List Entry) → noEntry ps ≡ true → ps ≡ []
+    go : (ps : List Entry) → isEmpty ps ≡ true → ps ≡ []
     go [] k = refl
     go (p ∷ ps) k = absurd (false≢true k)
 

@@ -8,16 +8,16 @@ use mathlib.Core.Logic.{⊎-elim}
 use mathlib.Core.List.{List, [], _∷_, _++_, map}
 use native.Mathlib.Omega.{arith}
 use borrow.Author.Tests.{not-true}
-use Rattle.format.specs.Bytes.{Bytes, ascii, if_then_else_, colon, all, total, texts, has, upTo, past}
+use Rattle.format.specs.Bytes.{isEmpty, Bytes, ascii, if_then_else_, colon, all, total, texts, has, upTo, past}
 use Rattle.format.specs.Characters.{isWhite, trim, clearEnds}
 use Rattle.format.specs.Escaping.{escape}
 use Rattle.format.specs.Refusals.{Out, accepted, _>>=_}
-use Rattle.format.specs.Validators.{isEmpty, headerName, contentType}
+use Rattle.format.specs.Validators.{headerName, contentType}
 use Rattle.format.specs.Message.{Entry, entry, Header, nameOf, Message, insert, put, needEntry, needHeader, validHeader, validContent}
 use Rattle.format.specs.Calls.{Stores, withHeaders, withContents, append}
 use Rattle.format.specs.Reading.{each, readHeader, readLine, readHeaderLine, readType, readNamed, readContentLine}
 use Rattle.format.specs.Writing.{paramText, headerLine, contentLine, typeLine}
-use Rattle.format.specs.Demand3.{noEntry, noParam, notType, clearContent}
+use Rattle.format.specs.Demand3.{noParam, notType, clearContent}
 use Rattle.format.proofs.Lists.{bcase, clash, and-left, and-right, all-head, all-tail}
 use Rattle.format.proofs.Characters.Trim.{trim-clear}
 use Rattle.format.proofs.Steps.{accepted-same, then-accepted, bind-accepted, each-keeps}
@@ -72,8 +72,8 @@ pub header-line-filled : (h : Header) → isEmpty (headerLine h) ≡ false
 unfolding headerLine
 header-line-filled h = header-filled (h .name) (texts paramText (h .params) ++ (ascii " " ++ escape (h .value)))
 
-no-entries : (es : List Entry) → noEntry es ≡ true → es ≡ []
-unfolding noEntry
+no-entries : (es : List Entry) → isEmpty es ≡ true → es ≡ []
+unfolding isEmpty
 no-entries [] h = refl
 no-entries (e ∷ es) h = clash h refl
 
@@ -87,7 +87,7 @@ headerStep st h a = readHeaderLine readHeader st (headerLine h) a
 
 no-param-step : (st : Stores) (h : Header) (a c : Message) → validHeader h ≡ true → all noParam (a .headers) ≡ true → headerStep st h a ≡ accepted c
     → all noParam (c .headers) ≡ true
-unfolding noParam noEntry
+unfolding noParam isEmpty
 no-param-step st h a c v p e =
     let k = header-added st (headerLine h) a c (header-line-filled h) e in
     let none : noParam (k .0) ≡ true = rw (read-header-no-params h v (k .0) (k .1)) refl in

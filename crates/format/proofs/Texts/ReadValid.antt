@@ -9,6 +9,7 @@ use mathlib.Core.Option.{Option, none, some}
 use native.Mathlib.Omega.{arith}
 use lib.ListN.{length}
 use Rattle.format.specs.Bytes.{
+  isEmpty,
   Bytes,
   ascii,
   all,
@@ -30,7 +31,7 @@ use Rattle.format.specs.Bytes.{
 use Rattle.format.specs.Characters.{isUtf8, isAsciiControl, isWhite, trim}
 use Rattle.format.specs.Escaping.{unescape}
 use Rattle.format.specs.Refusals.{badEscape, tooFewSections, Out, accepted, passes, refuseIf, atMost, _>>_}
-use Rattle.format.specs.Validators.{isEmpty, headerValue, contentType, utf8}
+use Rattle.format.specs.Validators.{headerValue, contentType, utf8}
 use Rattle.format.specs.Message.{Entry, Header, Message, ascending, increasing, need, validHeader, valid}
 use Rattle.format.specs.Calls.{Stores}
 use Rattle.format.specs.Reading.{

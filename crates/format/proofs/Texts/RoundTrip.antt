@@ -8,7 +8,7 @@ use native.Mathlib.Omega.{arith}
 use lib.Dec.{ltb}
 use lib.ListN.{length, length-append}
 use borrow.Author.Tests.{le-ltb}
-use Rattle.format.specs.Bytes.{Bytes, ascii, CRLF, all, total, texts}
+use Rattle.format.specs.Bytes.{isEmpty, Bytes, ascii, CRLF, all, total, texts}
 use Rattle.format.specs.Characters.{isUtf8, isWhite, clearEnds, replaced}
 use Rattle.format.specs.Limits.{maxText}
 use Rattle.format.specs.Refusals.{textTooLong, noRoom, accepted, refuseIf, atMost, _>>_, _>>=_}
@@ -149,7 +149,7 @@ lines-back m ks st e w c r =
     ∙ rw (replaced-same (m .body) (c .body-utf8)) (body-back st (parts (m .headers) (m .type) (m .contents) []) (m .body) (w .body) (r .1)))
 
 pub reads-back : (m : Message) (st : Stores) → valid m ≡ true → comesBack m ≡ true → RoomFor m st → read (write m) st ≡ accepted m
-unfolding hasHeader
+unfolding hasHeader isEmpty
 reads-back m st v b r = go (m .headers) refl
   where
     w : Within m

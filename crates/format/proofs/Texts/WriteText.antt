@@ -5,12 +5,12 @@ use mathlib.Core.Bool.{Bool, true, false, not, false≢true}
 use mathlib.Core.List.{List, [], _∷_, _++_, map, append-assoc}
 use lib.Dec.{leb, ltb}
 use lib.ListN.{length}
-use Rattle.format.specs.Bytes.{Bytes, ascii, cr, lf, CRLF, CRLFCRLF, all, any, texts, begins, occurs, has, lower, pieces, split, join}
+use Rattle.format.specs.Bytes.{isEmpty, Bytes, ascii, cr, lf, CRLF, CRLFCRLF, all, any, texts, begins, occurs, has, lower, pieces, split, join}
 use Rattle.format.specs.Characters.{isAsciiControl, isUtf8, replaced}
 use Rattle.format.specs.Escaping.{escape}
 use Rattle.format.specs.Limits.{maxText}
 use Rattle.format.specs.Refusals.{accepted, Out, textTooLong, noMessageCpim, notUtf8, atMost, refuseIf, passes, _>>_, _>>=_}
-use Rattle.format.specs.Validators.{isEmpty, reservedInParamName, reservedInParamValue, utf8}
+use Rattle.format.specs.Validators.{reservedInParamName, reservedInParamValue, utf8}
 use Rattle.format.specs.Message.{Entry, Header, Message, need, validParam, validHeader, validContent, validType, valid}
 use Rattle.format.specs.Calls.{Stores, room, setBody}
 use Rattle.format.specs.Writing.{paramText, headerLine, contentLine, typeLine, firstLine, ended, write}
