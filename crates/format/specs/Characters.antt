@@ -57,6 +57,7 @@ fits [] (b ∷ t) = false
 fits (r ∷ rs) [] = false
 fits (r ∷ rs) (b ∷ t) = within b r && fits rs t
 
+-- the same where a row was found
 abbrev pub fitsSome : Option (List Range) → Bytes → Bool
 fitsSome none t = false
 fitsSome (some rs) t = fits rs t
@@ -72,12 +73,13 @@ matched [] t = 0
 matched (r ∷ rs) [] = 0
 matched (r ∷ rs) (b ∷ t) = if within b r then suc (matched rs t) else 0
 
+-- the same where a row was found, else none
 abbrev pub matchedSome : Option (List Range) → Bytes → ℕ
 matchedSome none t = 0
 matchedSome (some rs) t = matched rs t
 
 -- how many bytes of t stand with a byte b before them: they complete a character or, where none can be completed,
--- the longest beginning of one (a maximal subpart)
+-- the longest beginning of one (a maximal subpart: none where b begins no character)
 abbrev pub trailing : ℕ → Bytes → ℕ
 trailing b t = matchedSome (trailOf b) t
 
@@ -158,6 +160,7 @@ unfoldable pub dropFront : (Bytes → Bool) → List Bytes → List Bytes
 dropFront p [] = []
 dropFront p (g ∷ gs) = if p g then dropFront p gs else g ∷ gs
 
+-- g in front of what is kept behind it
 abbrev pub keepBack : (Bytes → Bool) → Bytes → List Bytes → List Bytes
 keepBack p g [] = if p g then [] else g ∷ []
 keepBack p g (h ∷ hs) = g ∷ h ∷ hs
@@ -184,6 +187,7 @@ unfoldable pub lastOf : Bytes → List Bytes → Bytes
 lastOf g [] = g
 lastOf g (h ∷ hs) = lastOf h hs
 
+-- neither the first nor the last of the characters passes the test
 unfoldable pub clearOf : (Bytes → Bool) → List Bytes → Bool
 clearOf p [] = true
 clearOf p (g ∷ gs) = not (p g) && not (p (lastOf g gs))

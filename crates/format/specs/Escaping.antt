@@ -19,8 +19,8 @@ unicodeEscape n = backslash ∷ 117 ∷ digit (n / 4096 % 16) ∷ digit (n / 256
 -- what follows the backslash for a character that has a short form: \\ \" \b \t \n \r
 unfoldable pub shortForm : ℕ → Option ℕ
 shortForm n =
-    if eqb n 92 then some 92
-    else if eqb n 34 then some 34
+    if eqb n backslash then some backslash
+    else if eqb n quote then some quote
     else if eqb n 8 then some 98
     else if eqb n 9 then some 116
     else if eqb n 10 then some 110
@@ -30,6 +30,7 @@ shortForm n =
 abbrev pub longForm : Bytes → Bytes
 longForm g = if isControl g then unicodeEscape (codePoint g) else g
 
+-- the short form where there is one, else the long form
 abbrev pub shortOr : Option ℕ → Bytes → Bytes
 shortOr none g = longForm g
 shortOr (some c) g = backslash ∷ c ∷ []
@@ -72,6 +73,7 @@ unfoldable pub scalarEscape : Option ℕ → Option Escape
 scalarEscape none = none
 scalarEscape (some n) = if isScalar n then some (record { stands = encoding n; takes = 5 }) else none
 
+-- `\u`: the four bytes behind it
 unfoldable pub longEscape : Bytes → Option Escape
 longEscape [] = none
 longEscape (a ∷ []) = none
@@ -82,10 +84,11 @@ longEscape (a ∷ b ∷ c ∷ d ∷ t) = scalarEscape (fourDigits a b c d)
 abbrev pub oneByte : ℕ → Option Escape
 oneByte n = some (record { stands = n ∷ []; takes = 1 })
 
+-- the short forms read
 unfoldable pub shortEscape : ℕ → Option Escape
 shortEscape c =
-    if eqb c 92 then oneByte 92
-    else if eqb c 34 then oneByte 34
+    if eqb c backslash then oneByte backslash
+    else if eqb c quote then oneByte quote
     else if eqb c 98 then oneByte 8
     else if eqb c 116 then oneByte 9
     else if eqb c 110 then oneByte 10
@@ -96,6 +99,7 @@ unfoldable pub escapeAt : Bytes → Option Escape
 escapeAt [] = none
 escapeAt (c ∷ s) = if eqb c 117 then longEscape s else shortEscape c
 
+-- how many bytes are passed over
 abbrev pub takesOf : Option Escape → ℕ
 takesOf none = 0
 takesOf (some e) = e .takes

@@ -1,4 +1,4 @@
--- Document 01: the example of each row of the refusal table, and the limits at and one past; proved in proofs/Examples/Refusals.antt. Assumes nothing.
+-- Document 01, "Refusals by number": the example of each row of the table, and the limits at and one past; proved in proofs/Examples/Refusals.antt. Assumes nothing.
 use Prim.Native.Nat.{ℕ}
 use mathlib.Core.Path.{_≡_}
 use mathlib.Core.List.{List, [], _∷_, _++_}
@@ -27,7 +27,7 @@ readContentOf c = numbers (read (notice (ascii "To: a") c) roomy)
 abbrev pub letters : ℕ → Bytes
 letters n = replicate n 97
 
--- a message of n headers To, a header of n parameters called a to j
+-- a message of n headers To; a header with a parameter for each letter
 abbrev pub headersOf : ℕ → Message
 headersOf n =
     record {

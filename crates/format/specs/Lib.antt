@@ -1,3 +1,4 @@
+-- Document 01 as definitions, a file a section.
 pub mod Bytes
 pub mod Characters
 pub mod Escaping

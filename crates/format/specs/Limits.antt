@@ -1,4 +1,5 @@
--- Document 01: the lengths and counts that are allowed at most, in bytes. The source's name stands beside each.
+-- Document 01, "Taken over, and made afresh": the lengths, in bytes, and counts that are allowed at most. The source's name stands
+-- beside each. Assumes nothing.
 use Prim.Native.Nat.{ℕ}
 
 -- MAX_PARSE_SIZE

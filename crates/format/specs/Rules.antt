@@ -1,7 +1,8 @@
--- Document 01: the mistakes to expect, the order of checks where two faults meet, and worked examples of its rules and of Unicode
+-- Document 01, "Specimens" and the sections before it: the mistakes to expect, the order of checks where two faults meet, and worked examples of its rules and of Unicode
 -- chapter 3; proved in proofs/Examples/Rules.antt. Assumes nothing.
-use Prim.Native.Nat.{ℕ}
+use Prim.Native.Nat.{ℕ, _^_}
 use mathlib.Core.Path.{_≡_}
+use mathlib.Core.Bool.{true, false}
 use mathlib.Core.List.{List, [], _∷_, _++_}
 use mathlib.Core.Option.{Option, none, some}
 use lib.ListN.{length, replicate}
@@ -24,9 +25,27 @@ use Rattle.format.specs.Calls.{
   with-ns,
   with-subject-lang,
 }
-use Rattle.format.specs.Reading.{read, readHeader}
-use Rattle.format.specs.LookingUp.{address, getHeader, getHeaderValue, findBody, bufferAfter, bodyPart}
-use Rattle.format.specs.Showing.{showcpim}
+use Rattle.format.specs.Reading.{read, readHeader, Parts, textParts}
+use Rattle.format.specs.LookingUp.{
+  address,
+  getHeader,
+  getHeaderValue,
+  getParam,
+  getType,
+  getBody,
+  getContent,
+  aloneValue,
+  aloneParam,
+  countHeaders,
+  countParams,
+  countContents,
+  bodyAsStr,
+  findBody,
+  bodyLengthOf,
+  bufferAfter,
+  bodyPart,
+}
+use Rattle.format.specs.Showing.{show, showcpim}
 use Rattle.format.specs.Specimens.{roomy, single, back, bodyRead, withTwenty, twoSections}
 use Rattle.format.specs.Examples.{notice, readHeaderOf, readContentOf, letters, headersOf, paramsOf}
 
@@ -139,13 +158,51 @@ pub record Rules : Type 0 where
   pub bodyWritten : bufferAfter twoSections (ascii "1234567") ≡ ascii "a\r\n\r\nb7"
   pub bodyInBuffer : (bodyPart twoSections (ascii "1234567") 6 ≡ ascii "123456") × (bodyPart twoSections (ascii "1234567") 8 ≡ [])
 
--- Looking up, and what `showcpim` prints
-pub record Shown : Type 0 where
+-- two headers of one name with parameters, and a content header
+abbrev pub twoValues : Message
+twoValues =
+    record {
+      headers = record { name = ascii "To"; value = ascii "a"; params = entry (ascii "p") (ascii "1") ∷ [] } ∷ record { name = ascii "To"; value = ascii "b"; params = entry (ascii "p") (ascii "2") ∷ entry (ascii "q") (ascii "3") ∷ [] } ∷ [];
+      type = ascii "text/plain";
+      contents = entry (ascii "A") (ascii "x") ∷ entry (ascii "B") (ascii "y") ∷ [];
+      body = 255 ∷ [];
+    }
+
+-- Looking up
+pub record Lookups : Type 0 where
   pub addressed : address (ascii "Alice <im:a@b>") ≡ some (ascii "im:a@b")
   pub emptyAddress : address (ascii "<>") ≡ some []
   pub noAddress : address (ascii "a > b < c") ≡ none
-  pub found : getHeader (some (single (ascii "To") (ascii "a") [])) (ascii "To") ≡ some (ascii "a")
-  pub absent : getHeader (some (single (ascii "To") (ascii "a") [])) (ascii "to") ≡ none
+  pub firstValue : getHeader (some twoValues) (ascii "To") ≡ some (ascii "a")
+  pub secondValue : getHeaderValue (some twoValues) (ascii "To") 1 ≡ some (ascii "b")
+  pub thirdValue : getHeaderValue (some twoValues) (ascii "To") 2 ≡ none
+  pub otherCase : getHeader (some twoValues) (ascii "to") ≡ none
+  -- absent for a name that is not UTF-8, were there such a header
+  pub illFormed : getHeader (some (single (255 ∷ []) (ascii "a") [])) (255 ∷ []) ≡ none
+  -- the n-th parameter of the k-th value
+  pub paramOf : (getParam (some twoValues) (ascii "To") 1 0 ≡ some (entry (ascii "p") (ascii "2"))) × (getParam (some twoValues) (ascii "To") 0 1 ≡ none)
+  pub aloneParams : (aloneValue (some (paramsOf (ascii "ab"))) ≡ some []) × (aloneParam (some (paramsOf (ascii "ab"))) 1 ≡ some (entry (ascii "b") (ascii "x")))
+  pub typeAndBody : (getType (some twoValues) ≡ some (ascii "text/plain")) × (getBody (some twoValues) ≡ some (255 ∷ []))
+  pub contents : (getContent (some twoValues) 1 ≡ some (entry (ascii "B") (ascii "y"))) × (getContent (some twoValues) 2 ≡ none)
+  pub counts : (countHeaders (some twoValues) ≡ 2) × (countParams (some twoValues) ≡ 3) × (countContents (some twoValues) ≡ 2)
+  pub bodyText : (bodyAsStr (some twoValues) ≡ false) × (bodyAsStr (some withTwenty) ≡ true)
+  -- absent where nothing is held
+  pub unheld : (getHeader none (ascii "To") ≡ none) × (getType none ≡ none) × (getBody none ≡ none) × (getContent none 0 ≡ none) × (aloneValue none ≡ none) × (bodyAsStr none ≡ false)
+  -- body without a store: 1, 2 and 23; the second call gives nothing of a refused text
+  pub longText : (t : Bytes) (n : ℕ) → length t ≡ 20971521 → numbers (findBody t n) ≡ 1 carrying 20971521
+  pub longBody : (t : Bytes) (n : ℕ) (p : Parts) → textParts t ≡ accepted p → length (p .body) ≡ 10485761 → numbers (findBody t n) ≡ 23 carrying 10485761
+  pub refusedBody : (numbers (findBody (ascii "Hi") 9) ≡ 2 carrying 0) × (bodyLengthOf (findBody (ascii "Hi") 9) ≡ 0) × (bodyPart (ascii "Hi") (ascii "123") 2 ≡ [])
+
+-- What `showcpim` prints
+pub record Shown : Type 0 where
   pub printed : showcpim (notice (ascii "From: <im:a@b>") (ascii "Content-type: text/plain"))
       ≡ ascii "result=0\ncarried=0\nheaders=1\nparams=0\ncontents=0\ntype=text/plain\nbody=2\n"
   pub refusedPrinted : showcpim (ascii "Hi") ≡ ascii "result=2\ncarried=0\n"
+  -- the type is escaped as a header value is
+  pub typeEscaped : showcpim (notice (ascii "a;b=c: d") (ascii "e: f\r\nContent-type: \"\\"))
+      ≡ ascii "result=0\ncarried=0\nheaders=1\nparams=1\ncontents=1\ntype=\\\"\\\\\nbody=2\n"
+  -- at most 65,536 bytes, and stores of 65,536 bytes
+  pub atMost : (input : Bytes) → length input ≡ 65536 → showcpim input ≡ show (read input roomy)
+  pub tooLong : (input : Bytes) → length input ≡ 65537 → showcpim input ≡ ascii "result=26\ncarried=65537\n"
+  -- a carried number has 64 bits, the largest for more
+  pub capped : (_carrying_ 10 (2 ^ 64)) .carried ≡ 18446744073709551615

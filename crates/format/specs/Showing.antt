@@ -1,4 +1,4 @@
--- Document 01: what the program `showcpim` prints for standard input. Assumes nothing.
+-- Document 01, "Looking up": what the program `showcpim` prints for standard input. Assumes nothing.
 use Prim.Native.Nat.{ℕ, zero, suc, _+_, _/_, _%_}
 use mathlib.Core.Bool.{Bool, true, false, not}
 use mathlib.Core.List.{List, [], _∷_, _++_}
@@ -40,6 +40,7 @@ showMessage (accepted m) =
     ++ (shown (ascii "contents") (decimal (countContents (some m)))
     ++ (shown (ascii "type") (escape (m .type)) ++ shown (ascii "body") (decimal (length (m .body))))))
 
+-- all lines
 unfoldable pub show : Out Message → Bytes
 show o = showNumbers (numbers o) ++ showMessage o
 

@@ -1,6 +1,15 @@
 -- The mistakes, the order of checks and the worked examples, each by computing its definitions. Assumes nothing.
-use mathlib.Core.Path.{refl}
-use Rattle.format.specs.Rules.{Mistakes, Order, Rules, Shown}
+use Prim.Native.Nat.{ℕ}
+use mathlib.Core.Path.{_≡_, refl}
+use lib.ListN.{length}
+use Rattle.format.specs.Bytes.{Bytes, ascii}
+use Rattle.format.specs.Refusals.{accepted, numbers, table, _carrying_, refuseIf, atMost, _>>=_, _>>_}
+use Rattle.format.specs.Calls.{bodyLength}
+use Rattle.format.specs.Reading.{read, Parts, textParts}
+use Rattle.format.specs.LookingUp.{bodyOfText, findBody}
+use Rattle.format.specs.Showing.{digitsFrom, decimal, showNumbers, showMessage, show, showcpim}
+use Rattle.format.specs.Specimens.{roomy}
+use Rattle.format.specs.Rules.{Mistakes, Order, Rules, Lookups, Shown}
 use Rattle.format.proofs.Examples.Computing.{computing}
 
 pub mistakes : Mistakes
@@ -18,7 +27,46 @@ unfolding computing
 rules =
     record { lowerCase = refl; eitherCase = (refl, refl); upperControl = refl; shortForms = (refl, refl); refusedEscapes = (refl, refl, refl, refl); nonShortest = refl; surrogates = refl; otherIllFormed = refl; truncated = refl; lineEnds = refl; blankHeader = refl; blankContent = refl; typeCase = refl; paramWins = refl; appended = refl; bodyInText = (refl, refl); bodyShort = refl; bodyWritten = refl; bodyInBuffer = (refl, refl) }
 
+long-text : (t : Bytes) (n : ℕ) → length t ≡ 20971521 → numbers (findBody t n) ≡ 1 carrying 20971521
+unfolding computing
+long-text t n h = rw h refl
+
+long-body : (t : Bytes) (n : ℕ) (p : Parts) → textParts t ≡ accepted p → length (p .body) ≡ 10485761 → numbers (findBody t n) ≡ 23 carrying 10485761
+unfolding findBody bodyOfText bodyLength atMost refuseIf numbers table _>>=_ _>>_
+long-body t n p e h = rw (e, h) refl
+
+pub lookups : Lookups
+unfolding computing
+lookups =
+    record {
+      addressed = refl;
+      emptyAddress = refl;
+      noAddress = refl;
+      firstValue = refl;
+      secondValue = refl;
+      thirdValue = refl;
+      otherCase = refl;
+      illFormed = refl;
+      paramOf = (refl, refl);
+      aloneParams = (refl, refl);
+      typeAndBody = (refl, refl);
+      contents = (refl, refl);
+      counts = (refl, refl, refl);
+      bodyText = (refl, refl);
+      unheld = (refl, refl, refl, refl, refl, refl);
+      longText = long-text;
+      longBody = long-body;
+      refusedBody = (refl, refl, refl);
+    }
+
+at-most : (input : Bytes) → length input ≡ 65536 → showcpim input ≡ show (read input roomy)
+unfolding showcpim
+at-most input h = rw h refl
+
+too-long : (input : Bytes) → length input ≡ 65537 → showcpim input ≡ ascii "result=26\ncarried=65537\n"
+unfolding showcpim show showNumbers showMessage numbers table decimal digitsFrom
+too-long input h = rw h refl
+
 pub shown : Shown
 unfolding computing
-shown =
-    record { addressed = refl; emptyAddress = refl; noAddress = refl; found = refl; absent = refl; printed = refl; refusedPrinted = refl }
+shown = record { printed = refl; refusedPrinted = refl; typeEscaped = refl; atMost = at-most; tooLong = too-long; capped = refl }
