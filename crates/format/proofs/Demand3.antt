@@ -1,12 +1,10 @@
 -- Demand 3: a message that a list of calls reaches is within limits and validators, and for such a message both directions of reading
 -- back are RoundTrip and OnlyIf. Assumes nothing.
-use Prim.Native.Nat.{_+_, _≤_}
-use mathlib.Core.Path.{_≡_, refl, sym, ap, _∙_}
+use Prim.Native.Nat.{_+_}
+use mathlib.Core.Path.{_≡_, sym, ap, _∙_}
 use mathlib.Core.Bool.{true}
-use mathlib.Core.Logic.{_↔_}
 use native.Mathlib.Omega.{arith}
 use lib.ListN.{length}
-use Rattle.format.specs.Refusals.{accepted}
 use Rattle.format.specs.Message.{Message, need, valid}
 use Rattle.format.specs.Calls.{Stores}
 use Rattle.format.specs.Writing.{write}

@@ -1,36 +1,17 @@
 -- Document 01, "The message and its calls": every call as a function of what is held, its arguments and the stores' lengths,
 -- its checks in the order given there. Assumes nothing.
 use Prim.Native.Nat.{ℕ, _+_}
-use mathlib.Core.Bool.{Bool, true, false, not}
+use mathlib.Core.Bool.{not}
 use mathlib.Core.List.{List, [], _∷_, _++_}
 use mathlib.Core.Option.{Option, none, some}
-use lib.Dec.{leb, ltb}
+use lib.Dec.{ltb}
 use lib.ListN.{length}
 use Rattle.format.specs.Bytes.{Bytes, ascii, all}
 use Rattle.format.specs.Characters.{isUtf8}
 use Rattle.format.specs.Limits.{maxHeaders, maxParams, maxContents, maxBody}
-use Rattle.format.specs.Refusals.{
-  Refusal,
-  tooManyHeaders,
-  tooManyParams,
-  tooManyContents,
-  bodyTooLong,
-  notUtf8,
-  noRoom,
-  tooShort,
-  nothingHeld,
-  Out,
-  accepted,
-  refused,
-  Check,
-  pass,
-  refuseIf,
-  atMost,
-  _>>_,
-  _>>=_,
-}
+use Rattle.format.specs.Refusals.{tooManyHeaders, tooManyParams, tooManyContents, bodyTooLong, notUtf8, noRoom, tooShort, nothingHeld, Out, accepted, refused, Check, pass, refuseIf, atMost, _>>_, _>>=_}
 use Rattle.format.specs.Validators.{headerName, headerValue, contentValue, paramName, paramValue, contentType, utf8}
-use Rattle.format.specs.Message.{Entry, entry, entryName, LoneHeader, Header, nameOf, named, Message, insert, without, put, need, needAlone}
+use Rattle.format.specs.Message.{Entry, entry, LoneHeader, Header, nameOf, named, Message, insert, without, put, need, needAlone}
 
 -- The lengths of the stores lent to a call.
 pub record Stores : Type 0 where

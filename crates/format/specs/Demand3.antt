@@ -1,36 +1,17 @@
 -- Demand 3: for every list of changing calls begun by an accepted `new` or `parse_cpim`, the message held is the one that the calls define,
 -- and its text reads back as it exactly under a stated condition. Proved as `demand-3` in proofs/Demand3.antt. Assumes nothing.
-use Prim.Native.Nat.{ℕ, _≤_}
+use Prim.Native.Nat.{_≤_}
 use mathlib.Core.Path.{_≡_}
-use mathlib.Core.Bool.{Bool, true, false, not, _&&_}
+use mathlib.Core.Bool.{Bool, true, not, _&&_}
 use mathlib.Core.Logic.{_↔_}
 use mathlib.Core.List.{List, [], _∷_}
-use mathlib.Core.Option.{Option, none, some}
+use mathlib.Core.Option.{none, some}
 use lib.ListN.{length}
 use Rattle.format.specs.Bytes.{Bytes, ascii, isEmpty, all, sameLetters, over}
 use Rattle.format.specs.Characters.{isUtf8, isWhite, isLost, clearEnds}
 use Rattle.format.specs.Refusals.{Out, accepted, refused, _carrying_}
 use Rattle.format.specs.Message.{Entry, Header, Message, need, validAlone}
-use Rattle.format.specs.Calls.{
-  Stores,
-  Call,
-  set-body,
-  set-header,
-  add-header,
-  add-header-obj,
-  add-content-header,
-  with-from,
-  with-to,
-  with-datetime,
-  with-subject,
-  with-subject-lang,
-  with-cc,
-  with-ns,
-  with-require,
-  with-content-header,
-  answer,
-  new,
-}
+use Rattle.format.specs.Calls.{Stores, Call, set-body, set-header, add-header, add-header-obj, add-content-header, with-from, with-to, with-datetime, with-subject, with-subject-lang, with-cc, with-ns, with-require, with-content-header, answer, new}
 use Rattle.format.specs.Writing.{write}
 use Rattle.format.specs.Reading.{read}
 use Rattle.format.specs.Layout.{Lent, Holds}

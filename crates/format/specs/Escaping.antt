@@ -1,8 +1,8 @@
 -- Document 01, "Escaping" (RFC 3862 section 2.3), as the source has it. Stricter than the RFC: \' is refused. Laxer: \u takes a plus
 -- sign and three digits. Assumes nothing.
 use Prim.Native.Nat.{ℕ, zero, suc, _+_, _-_, _*_, _/_, _%_}
-use mathlib.Core.Bool.{Bool, true, false, _&&_, _||_}
-use mathlib.Core.List.{List, [], _∷_, _++_}
+use mathlib.Core.Bool.{_&&_}
+use mathlib.Core.List.{[], _∷_, _++_}
 use mathlib.Core.Option.{Option, none, some}
 use lib.Dec.{leb, ltb, eqb}
 use Rattle.format.specs.Bytes.{Bytes, if_then_else_, texts, backslash, quote, plus}

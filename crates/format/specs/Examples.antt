@@ -2,14 +2,14 @@
 use Prim.Native.Nat.{ℕ}
 use mathlib.Core.Path.{_≡_}
 use mathlib.Core.List.{List, [], _∷_, _++_}
-use mathlib.Core.Option.{Option, none, some}
+use mathlib.Core.Option.{none, some}
 use lib.ListN.{length, replicate}
 use Rattle.format.specs.Bytes.{Bytes, ascii, texts}
-use Rattle.format.specs.Refusals.{Out, accepted, refused, _carrying_, numbers, pass}
+use Rattle.format.specs.Refusals.{_carrying_, numbers, pass}
 use Rattle.format.specs.declared.Numbers.{Numbers}
 use Rattle.format.specs.Validators.{headerName, headerValue, contentValue, paramName, paramValue, contentType}
-use Rattle.format.specs.Message.{Entry, entry, LoneHeader, Header, Message}
-use Rattle.format.specs.Calls.{Stores, fresh, new, addHeader, setHeader, addParam, setBody, answer, add-header, withParam}
+use Rattle.format.specs.Message.{Entry, entry, LoneHeader, Message}
+use Rattle.format.specs.Calls.{Stores, new, addHeader, setHeader, addParam, setBody, answer, add-header, withParam}
 use Rattle.format.specs.Writing.{toText}
 use Rattle.format.specs.Reading.{read}
 use Rattle.format.specs.Specimens.{roomy, single}

@@ -1,10 +1,10 @@
 -- A message in lent stores. Document 01 leaves the layout free and fixes the message in it; this is the layout taken: the type in the
 -- first 256 bytes of the head store, padded with zeros, the headers, the content headers, in map order, in exactly the need in bytes.
 -- An entry is 16 bytes of numbers, its name, its value and its parameters. Assumes nothing.
-use Prim.Native.Nat.{ℕ, _+_, _-_, _/_, _%_}
+use Prim.Native.Nat.{ℕ, _-_, _/_, _%_}
 use mathlib.Core.Path.{_≡_}
-use mathlib.Core.Bool.{Bool, true}
-use mathlib.Core.List.{List, [], _∷_, _++_}
+use mathlib.Core.Bool.{true}
+use mathlib.Core.List.{[], _∷_, _++_}
 use mathlib.Core.Option.{Option, none, some}
 use lib.ListN.{length, take, replicate}
 use Rattle.format.specs.Bytes.{Bytes, texts, total}

@@ -2,7 +2,6 @@
 -- `new`, `parse_cpim`, `to_string`, `CpimHeader::new` and `with_param` beside it. Assumes nothing.
 use Prim.Native.Nat.{ℕ}
 use mathlib.Core.Path.{_≡_}
-use mathlib.Core.List.{List, [], _∷_, _++_}
 use mathlib.Core.Option.{Option, none, some}
 use lib.ListN.{length, take, replicate}
 use Rattle.format.specs.Bytes.{Bytes, over}
@@ -13,7 +12,6 @@ use Rattle.format.specs.Writing.{toText}
 use Rattle.format.specs.Reading.{read}
 use Rattle.format.specs.Layout.{Lent, Held, HeldAlone, layout, recordOf, layoutAlone, headerOf, emptyMessage, emptyHeader}
 use Rattle.format.specs.declared.Numbers.{Numbers}
-use Rattle.format.specs.declared.CpimMessage.{CpimMessage}
 use Rattle.format.specs.declared.CpimHeader.{CpimHeader}
 
 -- the length of a store; one that is not lent counts as empty

@@ -1,16 +1,16 @@
 -- Document 01, "Looking up": what is held is a message, or nothing. Absent is a case of its own (`none`). Assumes nothing.
 use Prim.Native.Nat.{ℕ, zero, suc}
-use mathlib.Core.Bool.{Bool, true, false, not}
-use mathlib.Core.List.{List, [], _∷_, _++_}
+use mathlib.Core.Bool.{Bool, true, false}
+use mathlib.Core.List.{List, [], _∷_}
 use mathlib.Core.Option.{Option, none, some}
 use lib.Dec.{leb}
-use lib.ListN.{length, take, drop}
+use lib.ListN.{length, take}
 use Rattle.format.specs.Bytes.{Bytes, if_then_else_, total, has, upTo, past, occurs, less-sign, greater-sign, CRLFCRLF, over}
 use Rattle.format.specs.Characters.{isUtf8}
 use Rattle.format.specs.Refusals.{Out, accepted, refused, Check, pass, _>>_, _>>=_}
 use Rattle.format.specs.Message.{Entry, LoneHeader, Header, nameOf, Message, only}
 use Rattle.format.specs.Calls.{enough, bodyLength}
-use Rattle.format.specs.Reading.{Parts, textParts}
+use Rattle.format.specs.Reading.{textParts}
 
 module _ {A : Type 0} where
   -- the n-th element, n counting from 0

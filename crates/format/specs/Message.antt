@@ -1,14 +1,14 @@
 -- Document 01, "The message and its calls": what a message is, when it is within limits and validators, and the room that it needs.
 -- Assumes nothing.
 use Prim.Native.Nat.{ℕ, _+_}
-use mathlib.Core.Bool.{Bool, true, false, not, _&&_}
-use mathlib.Core.List.{List, [], _∷_, _++_}
+use mathlib.Core.Bool.{Bool, true, not, _&&_}
+use mathlib.Core.List.{List, [], _∷_}
 use lib.Dec.{leb}
 use lib.ListN.{length}
 use Rattle.format.specs.Bytes.{Bytes, if_then_else_, all, total, same, before}
 use Rattle.format.specs.Characters.{isUtf8}
 use Rattle.format.specs.Limits.{maxHeaders, maxParams, maxContents, maxBody}
-use Rattle.format.specs.Refusals.{Check, passes}
+use Rattle.format.specs.Refusals.{passes}
 use Rattle.format.specs.Validators.{headerName, headerValue, contentValue, paramName, paramValue, contentType}
 
 -- A parameter, or a content header.

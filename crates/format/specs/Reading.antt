@@ -1,49 +1,13 @@
 -- Document 01, "Reading": a text read into a message, with the room of both stores. Assumes nothing.
-use Prim.Native.Nat.{ℕ, _+_}
-use mathlib.Core.Bool.{Bool, true, false, not}
-use mathlib.Core.List.{List, [], _∷_, _++_, map}
+use mathlib.Core.Bool.{Bool, not}
+use mathlib.Core.List.{List, [], _∷_, map}
 use mathlib.Core.Option.{Option, none, some}
 use lib.ListN.{length}
-use Rattle.format.specs.Bytes.{
-  isEmpty,
-  Bytes,
-  ascii,
-  if_then_else_,
-  colon,
-  semicolon,
-  equals,
-  LF,
-  CRLF,
-  LFLF,
-  CRLFCRLF,
-  occurs,
-  has,
-  upTo,
-  past,
-  lower,
-  sameLetters,
-  Pieces,
-  pieces,
-  split,
-  join,
-}
+use Rattle.format.specs.Bytes.{isEmpty, Bytes, ascii, if_then_else_, colon, semicolon, equals, LF, CRLF, LFLF, CRLFCRLF, occurs, has, upTo, past, lower, sameLetters, Pieces, pieces, split, join}
 use Rattle.format.specs.Characters.{trim}
 use Rattle.format.specs.Escaping.{unescape}
 use Rattle.format.specs.Limits.{maxText}
-use Rattle.format.specs.Refusals.{
-  textTooLong,
-  tooFewSections,
-  noMessageCpim,
-  lacksColon,
-  badEscape,
-  Out,
-  accepted,
-  refused,
-  refuseIf,
-  atMost,
-  _>>_,
-  _>>=_,
-}
+use Rattle.format.specs.Refusals.{textTooLong, tooFewSections, noMessageCpim, lacksColon, badEscape, Out, accepted, refused, refuseIf, atMost, _>>_, _>>=_}
 use Rattle.format.specs.Validators.{headerName, headerValue, contentType, utf8}
 use Rattle.format.specs.Message.{Entry, Header, Message, need}
 use Rattle.format.specs.Calls.{Stores, room, fresh, withType, setParam, append, addContentHeader, setBody}

@@ -1,5 +1,5 @@
 -- Document 01, "Refusals by number": the table, and the answer of a call that is accepted or refused. Assumes nothing.
-use Prim.Native.Nat.{ℕ, _+_, _-_, _^_, min}
+use Prim.Native.Nat.{ℕ, _-_, _^_, min}
 use mathlib.Core.Bool.{Bool, true, false, not}
 use lib.Dec.{leb}
 use Rattle.format.specs.declared.Numbers.{Numbers}

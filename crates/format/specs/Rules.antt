@@ -3,50 +3,19 @@
 use Prim.Native.Nat.{ℕ, _^_}
 use mathlib.Core.Path.{_≡_}
 use mathlib.Core.Bool.{true, false}
-use mathlib.Core.List.{List, [], _∷_, _++_}
-use mathlib.Core.Option.{Option, none, some}
+use mathlib.Core.List.{[], _∷_, _++_}
+use mathlib.Core.Option.{none, some}
 use lib.ListN.{length, replicate}
 use Rattle.format.specs.Bytes.{Bytes, ascii, texts}
 use Rattle.format.specs.Characters.{trim, replaced, replacement}
 use Rattle.format.specs.Escaping.{escape, unescape}
-use Rattle.format.specs.Refusals.{Out, accepted, refused, _carrying_, numbers}
-use Rattle.format.specs.declared.Numbers.{Numbers}
-use Rattle.format.specs.Message.{Entry, entry, LoneHeader, Header, Message}
-use Rattle.format.specs.Calls.{
-  Stores,
-  new,
-  setHeader,
-  addHeader,
-  addContentHeader,
-  withParam,
-  answer,
-  add-header,
-  add-header-obj,
-  with-ns,
-  with-subject-lang,
-}
+use Rattle.format.specs.Refusals.{accepted, _carrying_, numbers}
+use Rattle.format.specs.Message.{entry, Message}
+use Rattle.format.specs.Calls.{new, setHeader, addHeader, addContentHeader, withParam, answer, add-header-obj, with-ns, with-subject-lang}
 use Rattle.format.specs.Reading.{read, readHeader, Parts, textParts}
-use Rattle.format.specs.LookingUp.{
-  address,
-  getHeader,
-  getHeaderValue,
-  getParam,
-  getType,
-  getBody,
-  getContent,
-  aloneValue,
-  aloneParam,
-  countHeaders,
-  countParams,
-  countContents,
-  bodyAsStr,
-  findBody,
-  bodyLengthOf,
-  bufferAfter,
-  bodyPart,
-}
+use Rattle.format.specs.LookingUp.{address, getHeader, getHeaderValue, getParam, getType, getBody, getContent, aloneValue, aloneParam, countHeaders, countParams, countContents, bodyAsStr, findBody, bodyLengthOf, bufferAfter, bodyPart}
 use Rattle.format.specs.Showing.{show, showcpim}
-use Rattle.format.specs.Specimens.{roomy, single, back, bodyRead, withTwenty, twoSections}
+use Rattle.format.specs.Specimens.{roomy, single, back, withTwenty, twoSections}
 use Rattle.format.specs.Examples.{notice, readHeaderOf, readContentOf, letters, headersOf, paramsOf}
 
 -- The mistakes to expect are not made.

@@ -5,23 +5,7 @@ use mathlib.Core.Bool.{Bool, true, false}
 use mathlib.Core.List.{List, [], _∷_}
 use mathlib.Core.Option.{none, some}
 use Rattle.format.specs.Bytes.{Bytes}
-use Rattle.format.specs.Calls.{
-  Call,
-  set-body,
-  set-header,
-  add-header,
-  add-header-obj,
-  add-content-header,
-  with-from,
-  with-to,
-  with-datetime,
-  with-subject,
-  with-subject-lang,
-  with-cc,
-  with-ns,
-  with-require,
-  with-content-header,
-}
+use Rattle.format.specs.Calls.{Call, set-body, set-header, add-header, add-header-obj, add-content-header, with-from, with-to, with-datetime, with-subject, with-subject-lang, with-cc, with-ns, with-require, with-content-header}
 use Rattle.format.specs.Layout.{Lent}
 use Rattle.format.specs.Lending.{Changed}
 use Rattle.format.specs.declared.Numbers.{Numbers}

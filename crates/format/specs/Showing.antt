@@ -1,8 +1,7 @@
 -- Document 01, "Looking up": what the program `showcpim` prints for standard input. Assumes nothing.
 use Prim.Native.Nat.{ℕ, zero, suc, _+_, _/_, _%_}
-use mathlib.Core.Bool.{Bool, true, false, not}
-use mathlib.Core.List.{List, [], _∷_, _++_}
-use mathlib.Core.Option.{Option, some}
+use mathlib.Core.List.{[], _∷_, _++_}
+use mathlib.Core.Option.{some}
 use lib.Dec.{ltb, leb}
 use lib.ListN.{length}
 use Rattle.format.specs.Bytes.{Bytes, ascii, if_then_else_, LF}
@@ -10,7 +9,6 @@ use Rattle.format.specs.Escaping.{escape}
 use Rattle.format.specs.Refusals.{Out, accepted, refused, numbers, tooShort}
 use Rattle.format.specs.declared.Numbers.{Numbers}
 use Rattle.format.specs.Message.{Message}
-use Rattle.format.specs.Calls.{Stores}
 use Rattle.format.specs.Reading.{read}
 use Rattle.format.specs.LookingUp.{countHeaders, countParams, countContents}
 

@@ -1,15 +1,13 @@
 -- Document 01, "Specimens P1 to P11": one table, proved as a whole in proofs/Examples/Specimens.antt. Assumes nothing.
-use Prim.Native.Nat.{ℕ}
 use mathlib.Core.Path.{_≡_}
-use mathlib.Core.List.{List, [], _∷_, _++_, map}
+use mathlib.Core.List.{List, [], _∷_, map}
 use mathlib.Core.Option.{Option, none, some}
-use lib.ListN.{length, replicate}
+use lib.ListN.{replicate}
 use Rattle.format.specs.Bytes.{Bytes, ascii}
 use Rattle.format.specs.Escaping.{escape, unescape}
 use Rattle.format.specs.Refusals.{Out, accepted, refused, _carrying_, numbers, pass}
-use Rattle.format.specs.declared.Numbers.{Numbers}
 use Rattle.format.specs.Validators.{headerName}
-use Rattle.format.specs.Message.{Entry, entry, Header, Message}
+use Rattle.format.specs.Message.{Entry, entry, Message}
 use Rattle.format.specs.Calls.{Stores, fresh, addContentHeader}
 use Rattle.format.specs.Writing.{write}
 use Rattle.format.specs.Reading.{read, readValue}

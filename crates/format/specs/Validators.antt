@@ -1,33 +1,11 @@
 -- Document 01, "Validators": which numbers each gives, in order. Assumes nothing.
 use Prim.Native.Nat.{ℕ}
-use mathlib.Core.Bool.{Bool, true, false, not, _||_}
-use mathlib.Core.List.{List, [], _∷_}
+use mathlib.Core.Bool.{Bool, not, _||_}
 use lib.ListN.{length}
 use Rattle.format.specs.Bytes.{Bytes, ascii, isEmpty, any, has}
 use Rattle.format.specs.Characters.{isAsciiControl, isUtf8}
 use Rattle.format.specs.Limits.{maxName, maxValue, maxParamName, maxParamValue, maxType}
-use Rattle.format.specs.Refusals.{
-  Refusal,
-  nameEmpty,
-  nameTooLong,
-  nameControl,
-  nameReserved,
-  valueTooLong,
-  contentControl,
-  paramNameEmpty,
-  paramNameTooLong,
-  paramNameReserved,
-  paramValueTooLong,
-  paramValueReserved,
-  typeEmpty,
-  typeTooLong,
-  typeControl,
-  notUtf8,
-  Check,
-  refuseIf,
-  atMost,
-  _>>_,
-}
+use Rattle.format.specs.Refusals.{nameEmpty, nameTooLong, nameControl, nameReserved, valueTooLong, contentControl, paramNameEmpty, paramNameTooLong, paramNameReserved, paramValueTooLong, paramValueReserved, typeEmpty, typeTooLong, typeControl, notUtf8, Check, refuseIf, atMost, _>>_}
 
 -- one of `: ; = \ "`
 unfoldable pub reservedInName : ℕ → Bool

@@ -1,6 +1,6 @@
 -- Document 01, "Writing": the text T of a message. Assumes nothing.
 use Prim.Native.Nat.{ℕ}
-use mathlib.Core.List.{List, [], _∷_, _++_}
+use mathlib.Core.List.{_++_}
 use mathlib.Core.Option.{Option, none, some}
 use lib.ListN.{length}
 use Rattle.format.specs.Bytes.{Bytes, ascii, texts, CRLF}

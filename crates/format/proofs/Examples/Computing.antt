@@ -1,118 +1,14 @@
 -- To unfold `computing` is to unfold every definition that an example computes with. Assumes nothing.
 use Rattle.format.specs.Bytes.{isEmpty, all, any, total, texts, same, before, begins, occurs, upTo, past, lower, sameLetters, splitFrom, join}
-use Rattle.format.specs.Characters.{
-  trailIn,
-  fits,
-  wellFormed,
-  matched,
-  charsFrom,
-  chars,
-  isUtf8,
-  codePoint,
-  isScalar,
-  encoding,
-  isWhite,
-  isControlCode,
-  isControl,
-  isAsciiControl,
-  dropFront,
-  dropBack,
-  trimBy,
-  replaced,
-}
-use Rattle.format.specs.Escaping.{
-  digit,
-  unicodeEscape,
-  shortForm,
-  escapeChar,
-  escape,
-  digitValue,
-  fourDigits,
-  scalarEscape,
-  longEscape,
-  shortEscape,
-  escapeAt,
-  unescapeFrom,
-}
+use Rattle.format.specs.Characters.{trailIn, fits, wellFormed, matched, charsFrom, chars, isUtf8, codePoint, isScalar, encoding, isWhite, isControlCode, isControl, isAsciiControl, dropFront, dropBack, trimBy, replaced}
+use Rattle.format.specs.Escaping.{digit, unicodeEscape, shortForm, escapeChar, escape, digitValue, fourDigits, scalarEscape, longEscape, shortEscape, escapeAt, unescapeFrom}
 use Rattle.format.specs.Refusals.{table, numbers, _>>=_, _>>_, refuseIf, atMost}
 use Rattle.format.specs.Validators.{reservedInName, reservedInParamName, reservedInParamValue, headerName, headerValue, contentValue, paramName, paramValue, contentType, utf8}
 use Rattle.format.specs.Message.{insert, without, only, put, needEntry, needAlone, needHeader, need}
-use Rattle.format.specs.Calls.{
-  room,
-  enough,
-  bodyLength,
-  headerCount,
-  paramCount,
-  contentCount,
-  ifRoom,
-  setBody,
-  append,
-  addContentHeader,
-  setParam,
-  new,
-  setHeader,
-  addHeader,
-  addHeaderObj,
-  aloneOf,
-  addParam,
-  ifRoomAlone,
-  newHeader,
-  withParam,
-  nsValue,
-  arguments,
-  change,
-  handedIn,
-  answer,
-}
+use Rattle.format.specs.Calls.{room, enough, bodyLength, headerCount, paramCount, contentCount, ifRoom, setBody, append, addContentHeader, setParam, new, setHeader, addHeader, addHeaderObj, aloneOf, addParam, ifRoomAlone, newHeader, withParam, nsValue, arguments, change, handedIn, answer}
 use Rattle.format.specs.Writing.{paramText, headerLine, contentLine, typeLine, write, toText}
-use Rattle.format.specs.Reading.{
-  each,
-  separator,
-  sections,
-  lineEnd,
-  lines,
-  readParam,
-  checkedValue,
-  readValue,
-  readParts,
-  readHeader,
-  readType,
-  readNamed,
-  readContentLine,
-  saysCpim,
-  bodyOf,
-  readLine,
-  readHeaderLine,
-  partsOf,
-  textParts,
-  readNameAndValue,
-  readWith,
-}
-use Rattle.format.specs.LookingUp.{
-  nth,
-  nthHeader,
-  getHeaderValue,
-  getHeader,
-  getParam,
-  getType,
-  getBody,
-  getContent,
-  aloneValue,
-  aloneParam,
-  bodyAsStr,
-  bodyLengthOf,
-  countHeaders,
-  countParams,
-  countContents,
-  closed,
-  address,
-  bodyOfText,
-  inText,
-  bufferFor,
-  findBody,
-  bufferAfter,
-  bodyPart,
-}
+use Rattle.format.specs.Reading.{each, separator, sections, lineEnd, lines, readParam, checkedValue, readValue, readParts, readHeader, readType, readNamed, readContentLine, saysCpim, bodyOf, readLine, readHeaderLine, partsOf, textParts, readNameAndValue, readWith}
+use Rattle.format.specs.LookingUp.{nth, nthHeader, getHeaderValue, getHeader, getParam, getType, getBody, getContent, aloneValue, aloneParam, bodyAsStr, bodyLengthOf, countHeaders, countParams, countContents, closed, address, bodyOfText, inText, bufferFor, findBody, bufferAfter, bodyPart}
 use Rattle.format.specs.Showing.{digitsFrom, decimal, showNumbers, showMessage, show, showcpim}
 
 unfoldable pub computing : Unit {0}

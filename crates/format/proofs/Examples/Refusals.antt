@@ -1,5 +1,5 @@
 -- The examples of document 01, each by computing its definitions; those of texts too long to write out by their length. Assumes nothing.
-use mathlib.Core.Path.{_≡_, refl, ap, _∙_}
+use mathlib.Core.Path.{_≡_, refl}
 use lib.ListN.{length}
 use Rattle.format.specs.Refusals.{numbers, _carrying_}
 use Rattle.format.specs.Bytes.{Bytes, ascii}

@@ -6,46 +6,16 @@ use mathlib.Core.Bool.{true}
 use mathlib.Core.List.{List, []}
 use mathlib.Core.Option.{some}
 use native.Mathlib.Omega.{arith}
-use lib.Dec.{ltb}
 use lib.ListN.{length}
 use borrow.Author.Tests.{ltb-false}
 use Rattle.format.specs.Bytes.{Bytes, all}
 use Rattle.format.specs.Characters.{isUtf8}
 use Rattle.format.specs.Limits.{maxHeaders, maxParams, maxContents, maxBody}
-use Rattle.format.specs.Refusals.{noRoom, tooShort, bodyTooLong, tooManyHeaders, tooManyParams, tooManyContents, notUtf8, accepted, passes}
+use Rattle.format.specs.Refusals.{bodyTooLong, tooManyHeaders, tooManyParams, tooManyContents, notUtf8, accepted, passes}
 use Rattle.format.specs.Validators.{headerName, headerValue, contentValue, paramName, paramValue, contentType, utf8}
 use Rattle.format.specs.Message.{Entry, entry, LoneHeader, Header, nameOf, named, Message, insert, without, put, need, needAlone}
 use Rattle.format.specs.Calls
-use Rattle.format.specs.Calls.{
-  Stores,
-  room,
-  bodyLength,
-  headerCount,
-  paramCount,
-  contentCount,
-  ifRoom,
-  withHeaders,
-  withContents,
-  withBody,
-  fresh,
-  new,
-  setBody,
-  setHeader,
-  append,
-  addHeaderObj,
-  addHeader,
-  addContentHeader,
-  aloneOf,
-  setParam,
-  addParam,
-  ifRoomAlone,
-  newHeader,
-  withParam,
-  Call,
-  arguments,
-  change,
-  answer,
-}
+use Rattle.format.specs.Calls.{Stores, room, bodyLength, headerCount, paramCount, contentCount, ifRoom, withHeaders, withContents, withBody, fresh, new, setBody, setHeader, append, addHeaderObj, addHeader, addContentHeader, aloneOf, setParam, addParam, ifRoomAlone, newHeader, withParam, Call, arguments, change, answer}
 use Rattle.format.proofs.Steps.{accepted-same, then-accepted, bind-accepted, refuseIf-passes, refuseUnless-passes, atMost-passes}
 
 -- the checks of calls

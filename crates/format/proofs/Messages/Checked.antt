@@ -9,26 +9,7 @@ use borrow.Author.Tests.{le-leb, ltb-false}
 use Rattle.format.specs.Bytes.{isEmpty, Bytes, all, any}
 use Rattle.format.specs.Characters.{isAsciiControl}
 use Rattle.format.specs.Limits.{maxName, maxValue, maxParamName, maxParamValue, maxType}
-use Rattle.format.specs.Refusals.{
-  nameEmpty,
-  nameTooLong,
-  nameControl,
-  nameReserved,
-  valueTooLong,
-  contentControl,
-  paramNameEmpty,
-  paramNameTooLong,
-  paramNameReserved,
-  paramValueTooLong,
-  paramValueReserved,
-  typeEmpty,
-  typeTooLong,
-  typeControl,
-  refuseIf,
-  atMost,
-  passes,
-  _>>_,
-}
+use Rattle.format.specs.Refusals.{nameEmpty, nameTooLong, nameControl, nameReserved, valueTooLong, contentControl, paramNameEmpty, paramNameTooLong, paramNameReserved, paramValueTooLong, paramValueReserved, typeEmpty, typeTooLong, typeControl, refuseIf, atMost, passes, _>>_}
 use Rattle.format.specs.Validators.{reservedInName, reservedInParamName, reservedInParamValue, headerName, headerValue, contentValue, paramName, paramValue, contentType}
 use Rattle.format.proofs.Lists.{or-false-left, or-false-right, all-cons}
 use Rattle.format.proofs.Steps.{then-passes, refuseIf-passes, atMost-passes}

@@ -11,17 +11,7 @@ use Rattle.format.specs.Bytes.{Bytes, all, same, before}
 use Rattle.format.specs.Message.{Header, nameOf, insert, without, only, ascending}
 use Rattle.format.proofs.Lists.{bcase, clash, all-head, all-tail, all-cons, all-map, same-eq, same-refl}
 use Rattle.format.proofs.Messages.Order.{before-irreflexive, before-total}
-use Rattle.format.proofs.Messages.Keyed.{
-  insert-front,
-  insert-behind,
-  without-same,
-  without-other,
-  only-same,
-  only-other,
-  without-none,
-  ascending-later,
-  ascending-rest,
-}
+use Rattle.format.proofs.Messages.Keyed.{insert-front, insert-behind, without-same, without-other, only-same, only-other, without-none, ascending-later, ascending-rest}
 
 -- two equal lists, an empty and a longer one
 cons-nil : {A P : Type 0} (x : A) (xs : List A) → x ∷ xs ≡ [] → P

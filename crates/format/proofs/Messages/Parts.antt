@@ -11,25 +11,7 @@ use Rattle.format.specs.Characters.{isUtf8}
 use Rattle.format.specs.Limits.{maxHeaders, maxParams, maxContents, maxBody}
 use Rattle.format.specs.Refusals.{passes}
 use Rattle.format.specs.Validators.{headerName, headerValue, contentValue, paramName, paramValue, contentType}
-use Rattle.format.specs.Message.{
-  Entry,
-  entryName,
-  LoneHeader,
-  Header,
-  nameOf,
-  alone,
-  Message,
-  ascending,
-  increasing,
-  validParam,
-  validAlone,
-  validHeader,
-  validContent,
-  validHeaders,
-  validType,
-  validContents,
-  valid,
-}
+use Rattle.format.specs.Message.{Entry, entryName, LoneHeader, Header, nameOf, alone, Message, ascending, increasing, validParam, validAlone, validHeader, validContent, validHeaders, validType, validContents, valid}
 use Rattle.format.proofs.Lists.{and-left, and-right, and-intro}
 
 -- two tests at once, taken apart and put together

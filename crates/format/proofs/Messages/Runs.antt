@@ -14,31 +14,7 @@ use Rattle.format.specs.Refusals.{typeTooLong, Out, accepted, refused, p
 use Rattle.format.specs.declared.Numbers.{Numbers}
 use Rattle.format.specs.Validators.{contentType}
 use Rattle.format.specs.Message.{Entry, LoneHeader, Header, Message, needEntry, needAlone, needHeader, need, valid}
-use Rattle.format.specs.Calls.{
-  Stores,
-  setHeader,
-  append,
-  addHeaderObj,
-  addHeader,
-  addContentHeader,
-  Call,
-  set-body,
-  set-header,
-  add-header,
-  add-header-obj,
-  add-content-header,
-  with-from,
-  with-to,
-  with-datetime,
-  with-subject,
-  with-subject-lang,
-  with-cc,
-  with-ns,
-  with-require,
-  with-content-header,
-  change,
-  answer,
-}
+use Rattle.format.specs.Calls.{Stores, setHeader, append, addHeaderObj, addHeader, addContentHeader, Call, set-body, set-header, add-header, add-header-obj, add-content-header, with-from, with-to, with-datetime, with-subject, with-subject-lang, with-cc, with-ns, with-require, with-content-header, change, answer}
 use Rattle.format.specs.Layout.{fixed, entryBytes, layoutEntry, layoutHeader, layoutAlone, layout, recordOf, Holds}
 use Rattle.format.specs.Changing.{lengthOf, lengths, over, laidIn, leaves, Changed, State, takesBody, lend, Run, done, step}
 use Rattle.format.specs.Demand3.{holdsHeader, next, after}

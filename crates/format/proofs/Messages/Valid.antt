@@ -10,82 +10,14 @@ use Rattle.format.specs.Bytes.{Bytes, ascii, all}
 use Rattle.format.specs.Characters.{isUtf8}
 use Rattle.format.specs.Refusals.{Out, accepted, refused, nothingHeld}
 use Rattle.format.specs.Message.{Entry, entry, LoneHeader, Header, nameOf, named, Message, without, ascending, increasing, validAlone, valid}
-use Rattle.format.specs.Calls.{
-  Stores,
-  new,
-  setBody,
-  setHeader,
-  append,
-  addHeaderObj,
-  addHeader,
-  addContentHeader,
-  aloneOf,
-  setParam,
-  addParam,
-  newHeader,
-  withParam,
-  Call,
-  set-body,
-  set-header,
-  add-header,
-  add-header-obj,
-  add-content-header,
-  with-from,
-  with-to,
-  with-datetime,
-  with-subject,
-  with-subject-lang,
-  with-cc,
-  with-ns,
-  with-require,
-  with-content-header,
-  arguments,
-  nsValue,
-  change,
-  answer,
-}
+use Rattle.format.specs.Calls.{Stores, new, setBody, setHeader, append, addHeaderObj, addHeader, addContentHeader, aloneOf, setParam, addParam, newHeader, withParam, Call, set-body, set-header, add-header, add-header-obj, add-content-header, with-from, with-to, with-datetime, with-subject, with-subject-lang, with-cc, with-ns, with-require, with-content-header, arguments, nsValue, change, answer}
 use Rattle.format.specs.Demand3.{holdsHeader, next, after}
 use Rattle.format.proofs.Lists.{all-head, all-tail}
 use Rattle.format.proofs.Characters.Chars.{utf8-append, utf8-ascii-text}
 use Rattle.format.proofs.Steps.{refused-accepted, bind-accepted}
-use Rattle.format.proofs.Messages.Keyed.{
-  all-insert,
-  all-without,
-  length-insert,
-  ascending-insert,
-  ascending-without,
-  all-put,
-  increasing-put,
-  length-put,
-}
-use Rattle.format.proofs.Messages.Accepted.{
-  new-accepted,
-  setBody-accepted,
-  setHeader-accepted,
-  append-accepted,
-  addHeaderObj-accepted,
-  addHeader-accepted,
-  addContentHeader-accepted,
-  aloneOf-accepted,
-  setParam-accepted,
-  addParam-accepted,
-  newHeader-accepted,
-  withParam-accepted,
-  answer-accepted,
-}
-use Rattle.format.proofs.Messages.Parts.{
-  Params,
-  ByItself,
-  Head,
-  Within,
-  param-whole,
-  content-whole,
-  alone-parts,
-  alone-whole,
-  header-whole,
-  message-parts,
-  message-whole,
-}
+use Rattle.format.proofs.Messages.Keyed.{all-insert, all-without, length-insert, ascending-insert, ascending-without, all-put, increasing-put, length-put}
+use Rattle.format.proofs.Messages.Accepted.{new-accepted, setBody-accepted, setHeader-accepted, append-accepted, addHeaderObj-accepted, addHeader-accepted, addContentHeader-accepted, aloneOf-accepted, setParam-accepted, addParam-accepted, newHeader-accepted, withParam-accepted, answer-accepted}
+use Rattle.format.proofs.Messages.Parts.{Params, ByItself, Head, Within, param-whole, content-whole, alone-parts, alone-whole, header-whole, message-parts, message-whole}
 
 -- a list with no parameter
 pub no-params : Params []

@@ -11,7 +11,7 @@ use Rattle.format.specs.Characters.{replaced}
 use Rattle.format.specs.Refusals.{tooFewSections, accepted}
 use Rattle.format.specs.Message.{Header, nameOf, Message, insert}
 use Rattle.format.specs.Calls.{Stores}
-use Rattle.format.specs.Reading.{each, separator, sections, lineEnd, lines, bodyOf, blank, readHeader, readHeaderLine, Parts, partsOf, textParts, readParts, readWith, read}
+use Rattle.format.specs.Reading.{each, separator, sections, lineEnd, lines, blank, readHeader, readHeaderLine, Parts, partsOf, textParts, readParts, readWith, read}
 use Rattle.format.specs.Writing.{contentLine, typeLine, firstLine, ended, write}
 use Rattle.format.specs.Demand3.{hasHeader}
 use Rattle.format.proofs.Lists.{bcase}

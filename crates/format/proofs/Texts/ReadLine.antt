@@ -9,22 +9,7 @@ use lib.Dec.{eqb}
 use lib.ListN.{length}
 use borrow.Author.Tests.{eqb-false, ne-eqb}
 use Rattle.format.specs.Bytes.{Bytes, ascii, colon, semicolon, space, any, texts, has, lower, sameLetters}
-use Rattle.format.specs.Characters.{
-  trailIn,
-  fits,
-  wellFormed,
-  matched,
-  charsFrom,
-  chars,
-  codePoint,
-  isWhite,
-  dropFront,
-  dropBack,
-  trimBy,
-  isUtf8,
-  trim,
-  isLost,
-}
+use Rattle.format.specs.Characters.{trailIn, fits, wellFormed, matched, charsFrom, chars, codePoint, isWhite, dropFront, dropBack, trimBy, isUtf8, trim, isLost}
 use Rattle.format.specs.Escaping.{escape}
 use Rattle.format.specs.Limits.{maxValue}
 use Rattle.format.specs.Refusals.{lacksColon, valueTooLong, accepted, refuseIf, passes, _>>_, _>>=_}

@@ -8,57 +8,14 @@ use mathlib.Core.List.{List, [], _∷_}
 use mathlib.Core.Option.{Option, none, some}
 use native.Mathlib.Omega.{arith}
 use lib.ListN.{length}
-use Rattle.format.specs.Bytes.{
-  isEmpty,
-  Bytes,
-  ascii,
-  all,
-  any,
-  colon,
-  semicolon,
-  equals,
-  CRLF,
-  CRLFCRLF,
-  occurs,
-  has,
-  upTo,
-  past,
-  sameLetters,
-  Pieces,
-  pieces,
-  split,
-}
+use Rattle.format.specs.Bytes.{isEmpty, Bytes, ascii, all, any, colon, semicolon, equals, CRLF, CRLFCRLF, occurs, has, upTo, past, sameLetters, Pieces, pieces, split}
 use Rattle.format.specs.Characters.{isUtf8, isAsciiControl, isWhite, trim}
 use Rattle.format.specs.Escaping.{unescape}
 use Rattle.format.specs.Refusals.{badEscape, tooFewSections, Out, accepted, passes, refuseIf, atMost, _>>_}
 use Rattle.format.specs.Validators.{headerValue, contentType, utf8}
 use Rattle.format.specs.Message.{Entry, Header, Message, ascending, increasing, need, validHeader, valid}
 use Rattle.format.specs.Calls.{Stores}
-use Rattle.format.specs.Reading.{
-  each,
-  separator,
-  sections,
-  lineEnd,
-  lines,
-  readParam,
-  checkedValue,
-  readValue,
-  readNameAndValue,
-  readHeader,
-  readType,
-  readNamed,
-  readContentLine,
-  blank,
-  bodyOf,
-  readLine,
-  readHeaderLine,
-  Parts,
-  partsOf,
-  textParts,
-  readParts,
-  readWith,
-  read,
-}
+use Rattle.format.specs.Reading.{each, separator, sections, lineEnd, lines, readParam, checkedValue, readValue, readNameAndValue, readHeader, readType, readNamed, readContentLine, blank, readLine, readHeaderLine, Parts, partsOf, textParts, readParts, readWith, read}
 use Rattle.format.proofs.Lists.{bcase, all-head, all-tail}
 use Rattle.format.proofs.Characters.Chars.{utf8-ascii-text}
 use Rattle.format.proofs.Splitting.SplitUtf8.{split-utf8, upTo-utf8, past-utf8}

@@ -2,7 +2,7 @@
 -- there is room for it. The lines are read back in ReadBack.antt. Assumes nothing.
 use Prim.Native.Nat.{_+_, _*_, _≤_}
 use mathlib.Core.Path.{_≡_, refl, sym, ap, _∙_}
-use mathlib.Core.Bool.{true, false, _&&_, false≢true}
+use mathlib.Core.Bool.{true, _&&_, false≢true}
 use mathlib.Core.List.{List, [], _∷_, _++_, map}
 use native.Mathlib.Omega.{arith}
 use lib.Dec.{ltb}
@@ -23,7 +23,7 @@ use Rattle.format.proofs.Characters.Replaced.{replaced-same}
 use Rattle.format.proofs.Escaping.Escape.{escape-length}
 use Rattle.format.proofs.Steps.{then-passed, bind-passed, refuseIf-passed, atMost-passed}
 use Rattle.format.proofs.Messages.Checked.{name-checked, type-checked, content-checked, value-checked}
-use Rattle.format.proofs.Messages.Parts.{type-whole, Within, header-parts, content-parts, message-parts, type-parts}
+use Rattle.format.proofs.Messages.Parts.{type-whole, Within, header-parts, content-parts, message-parts}
 use Rattle.format.proofs.Texts.WriteText.{read-written}
 use Rattle.format.proofs.Texts.ReadBack.{parts, no-params, headers-back, contents-back, type-step, body-back}
 
