@@ -6,4 +6,7 @@ pub mod Checked
 pub mod Accepted
 pub mod Valid
 pub mod Room
+pub mod Layout
+pub mod Unique
+pub mod WithoutBody
 pub mod Runs

@@ -12,7 +12,7 @@ use Rattle.format.specs.Bytes.{Bytes, ascii}
 use Rattle.format.specs.Refusals.{accepted, nothingHeld}
 use Rattle.format.specs.Message.{LoneHeader, named, Message, need}
 use Rattle.format.specs.Calls.{Stores, setBody, addHeaderObj, addHeader, setHeader, addContentHeader, Call, set-body, set-header, add-header, add-header-obj, add-content-header, with-from, with-to, with-datetime, with-subject, with-subject-lang, with-cc, with-ns, with-require, with-content-header, nsValue, change, answer}
-use Rattle.format.specs.Changing.{takesBody}
+use Rattle.format.specs.Runs.{takesBody}
 use Rattle.format.proofs.Lists.{clash}
 use Rattle.format.proofs.Steps.{refused-accepted, bind-accepted}
 use Rattle.format.proofs.Messages.Accepted.{setBody-accepted, setHeader-accepted, append-accepted, addHeaderObj-accepted, addHeader-accepted, addContentHeader-accepted, answer-accepted}

@@ -1,126 +1,31 @@
--- A run of calls over lent stores holds the message that the calls define. A message laid out fills exactly its need, so what an
--- accepted call lays into the stores is held in stores of the same lengths. Assumes nothing.
-use Prim.Native.Nat.{ℕ, _+_, _≤_}
+-- A run of calls over lent stores holds the message that the calls define: what an accepted call lays into the stores is held in
+-- stores of the same lengths. And every list of calls has a run from a state that holds a message. Assumes nothing.
+use Prim.Native.Nat.{_≤_}
 use mathlib.Core.Path.{_≡_, refl, sym, ap, _∙_}
 use mathlib.Core.Bool.{Bool, true, false}
-use mathlib.Core.List.{List, [], _∷_, _++_}
-use mathlib.Core.Option.{none, some}
+use mathlib.Core.List.{List, [], _∷_}
+use mathlib.Core.Option.{Option, some}
 use native.Mathlib.Omega.{arith}
-use lib.ListN.{length, take, drop, length-append, length-take, length-drop, length-replicate, take-append-drop}
-use lib.Seq.{take-at, take-append-seam}
-use Rattle.format.specs.Bytes.{Bytes, all, total, texts}
-use Rattle.format.specs.Limits.{maxType}
-use Rattle.format.specs.Refusals.{typeTooLong, Out, accepted, refused, passes}
+use lib.ListN.{length, take}
+use Rattle.format.specs.Bytes.{all, over}
+use Rattle.format.specs.Refusals.{Out, accepted, refused, numbers}
 use Rattle.format.specs.declared.Numbers.{Numbers}
-use Rattle.format.specs.Validators.{contentType}
-use Rattle.format.specs.Message.{Entry, LoneHeader, Header, Message, needEntry, needAlone, needHeader, need, valid}
-use Rattle.format.specs.Calls.{Stores, setHeader, append, addHeaderObj, addHeader, addContentHeader, Call, set-body, set-header, add-header, add-header-obj, add-content-header, with-from, with-to, with-datetime, with-subject, with-subject-lang, with-cc, with-ns, with-require, with-content-header, change, answer}
-use Rattle.format.specs.Layout.{fixed, entryBytes, layoutEntry, layoutHeader, layoutAlone, layout, recordOf, Holds}
-use Rattle.format.specs.Changing.{lengthOf, lengths, over, laidIn, leaves, Changed, State, takesBody, lend, Run, done, step}
+use Rattle.format.specs.Message.{Message, need, valid}
+use Rattle.format.specs.Calls.{Call, withBody, answer}
+use Rattle.format.specs.Layout.{layout, recordOf, Lent, Holds, Held, message, nothing}
+use Rattle.format.specs.Lending.{lengthOf, lengths, laidIn, leaves, Changed}
+use Rattle.format.specs.Runs.{State, takesBody, lend, Run, done, step}
 use Rattle.format.specs.Demand3.{holdsHeader, next, after}
-use Rattle.format.proofs.Lists.{clash, all-head, all-tail, length-texts}
-use Rattle.format.proofs.Steps.{then-passes, atMost-passes}
-use Rattle.format.proofs.Messages.Parts.{message-parts}
+use Rattle.format.proofs.Lists.{all-head, all-tail}
+use Rattle.format.proofs.Messages.Layout.{layout-length, over-length, over-same, taken, laid-holds}
+use Rattle.format.proofs.Messages.Unique.{SameHead, holds-head-unique, holds-unique}
 use Rattle.format.proofs.Messages.Valid.{answer-valid}
 use Rattle.format.proofs.Messages.Room.{answer-room, answer-space, answer-body}
-
--- Lengths of what is laid out.
-
-total-same : {A : Type 0} (f g : A → ℕ) → ((x : A) → f x ≡ g x) → (xs : List A) → total f xs ≡ total g xs
-unfolding total
-total-same f g h [] = refl
-total-same f g h (x ∷ xs) = omega (arith, h x, total-same f g h xs)
-
-entryBytes-length : (n v : Bytes) (k : ℕ) (tail : Bytes) → length (entryBytes n v k tail) ≡ 16 + (length n + (length v + length tail))
-unfolding entryBytes fixed
-entryBytes-length n v k tail = simp length-append (omega arith)
-
-pub layoutEntry-length : (e : Entry) → length (layoutEntry e) ≡ needEntry e
-unfolding layoutEntry needEntry
-layoutEntry-length e = omega (arith, entryBytes-length (e .name) (e .value) 0 [])
-
-entries-length : (es : List Entry) → length (texts layoutEntry es) ≡ total needEntry es
-entries-length es = length-texts layoutEntry es ∙ total-same (λ e. length (layoutEntry e)) needEntry layoutEntry-length es
-
-pub layoutHeader-length : (h : Header) → length (layoutHeader h) ≡ needHeader h
-unfolding layoutHeader needHeader needAlone
-layoutHeader-length h =
-    omega (arith, entryBytes-length (h .name) (h .value) (length (h .params)) (texts layoutEntry (h .params)), entries-length (h .params))
-
-headers-length : (hs : List Header) → length (texts layoutHeader hs) ≡ total needHeader hs
-headers-length hs = length-texts layoutHeader hs ∙ total-same (λ h. length (layoutHeader h)) needHeader layoutHeader-length hs
-
-pub layoutAlone-length : (a : LoneHeader) → length (layoutAlone a) ≡ needAlone a
-unfolding layoutAlone needAlone
-layoutAlone-length a = simp length-append (omega (arith, entries-length (a .params)))
-
-pub contentType-length : (t : Bytes) → passes (contentType t) ≡ true → length t ≤ maxType
-unfolding contentType
-contentType-length t h =
-    let a = then-passes _ _ h in
-    let b = then-passes _ _ (a .1) in
-    atMost-passes maxType typeTooLong (length t) (b .0)
-
-pub layout-length : (m : Message) → valid m ≡ true → length (layout m) ≡ need m
-unfolding layout need
-layout-length m v =
-    let t = contentType-length (m .type) (message-parts m v .type .passed) in
-    simp (length-append, length-replicate) (omega (arith, headers-length (m .headers), entries-length (m .contents)))
-
--- A call that is not lent the body store does not look at its length.
-
--- the same head store, no body store
-abbrev bare : ℕ → Stores
-bare n = record { head = n; body = 0 }
-
-change-bare : (c : Call) (st : Stores) (m : Message) → takesBody c ≡ false → change c st m ≡ change c (bare (st .head)) m
-unfolding change setHeader append addHeaderObj addHeader addContentHeader takesBody
-change-bare (set-body b) st m h = clash refl h
-change-bare (set-header n v) st m h = refl
-change-bare (add-header n v) st m h = refl
-change-bare (add-header-obj n none) st m h = refl
-change-bare (add-header-obj n (some a)) st m h = refl
-change-bare (add-content-header n v) st m h = refl
-change-bare (with-from v) st m h = refl
-change-bare (with-to v) st m h = refl
-change-bare (with-datetime v) st m h = refl
-change-bare (with-subject v) st m h = refl
-change-bare (with-subject-lang v l) st m h = refl
-change-bare (with-cc v) st m h = refl
-change-bare (with-ns p u) st m h = refl
-change-bare (with-require v) st m h = refl
-change-bare (with-content-header n v) st m h = refl
-
-pub answer-head : (c : Call) (st su : Stores) (m : Message) → takesBody c ≡ false → st .head ≡ su .head
-    → answer c st (some m) ≡ answer c su (some m)
-unfolding answer
-answer-head c st su m h e = rw (change-bare c st m h, change-bare c su m h, e) refl
-
--- Bytes at the start of a store that is long enough.
-
-pub over-length : (s store : Bytes) → length s ≤ length store → length (over s store) ≡ length store
-over-length s store h = simp (length-append, length-drop) (omega arith)
-
--- what stands at the start of a store, laid there again, leaves the store
-pub over-same : (s store : Bytes) → take (length s) store ≡ s → over s store ≡ store
-over-same s store h = ap (λ x. x ++ drop (length s) store) (sym h) ∙ take-append-drop (length s) store
-
-taken : (n : ℕ) (s store : Bytes) → take n store ≡ s → length s ≡ n → n ≤ length store
-taken n s store h e = omega (arith, sym (length-take n store) ∙ ap length h)
+use Rattle.format.proofs.Messages.WithoutBody.{answer-head, rebody, answer-rebody, rebody-numbers, rebody-leaves}
 
 -- A state with a message laid into its stores.
 laidState : State → Message → State
 laidState s k = record { message = recordOf k; head = over (layout k) (s .head); body = over (k .body) (s .body) }
-
-laid-holds : (s : State) (k : Message) → valid k ≡ true → Holds (lend true (laidState s k)) k
-unfolding laidState
-laid-holds s k v =
-    record {
-      within = v;
-      recorded = refl;
-      laid = take-at (layout k) (drop (length (layout k)) (s .head)) (need k) (layout-length k v);
-      stored = take-append-seam (k .body) (drop (length (k .body)) (s .body));
-    }
 
 laid-lengths : (s : State) (k : Message) → valid k ≡ true → need k ≤ length (s .head) → length (k .body) ≤ length (s .body)
     → lengths (lend true (laidState s k)) ≡ lengths (lend true s)
@@ -171,13 +76,13 @@ left-without s t m (refused r) h f b e = state-same t s (ap (λ l. l .message) e
 left : (c : Call) (s t : State) (m : Message) (n : Numbers) (b : Bool) → takesBody c ≡ b → Holds (lend true s) m
     → Changed c (lend b s) (lend b t) n → (b ≡ false → t .body ≡ s .body) → t ≡ leavesState s (answer c (lengths (lend true s)) (some m))
 unfolding lengths
-left c s t m n true e h ch f = left-with s t (answer c (lengths (lend true s)) (some m)) ((ch .held m h) .1)
+left c s t m n true e h ch f = left-with s t (answer c (lengths (lend true s)) (some m)) (ch .left (some m) (message h))
 left c s t m n false e h ch f =
     let same = answer-head c (lengths (lend false s)) (lengths (lend true s)) m e refl in
     left-without s t m (answer c (lengths (lend true s)) (some m)) h
     (λ k g. answer-body c (lengths (lend true s)) m k g e)
     (f refl)
-    ((ch .held m (holds-head s m h)) .1 ∙ ap (leaves (lend false s)) same)
+    (ch .left (some m) (message (holds-head s m h)) ∙ ap (leaves (lend false s)) same)
 
 -- What holds of a state that an answer leaves: it holds the next message, in stores of the same lengths.
 record Goes (s t : State) (m : Message) : Type 0 where
@@ -187,10 +92,10 @@ record Goes (s t : State) (m : Message) : Type 0 where
 goes : (s : State) (m : Message) (o : Out Message) → Holds (lend true s) m
     → ((k : Message) → o ≡ accepted k → (valid k ≡ true) × (need k ≤ length (s .head)) × (length (k .body) ≤ length (s .body)))
     → Goes s (leavesState s o) (next o m)
-unfolding leavesState next
+unfolding leavesState laidState laidIn next
 goes s m (accepted k) h f =
     let a = f k refl in
-    record { holds = laid-holds s k (a .0); lasting = laid-lengths s k (a .0) (a .1) (a .2) }
+    record { holds = laid-holds (lend true s) k (a .0); lasting = laid-lengths s k (a .0) (a .1) (a .2) }
 goes s m (refused r) h f = record { holds = h; lasting = refl }
 
 one-call : (c : Call) (s t : State) (m : Message) (n : Numbers) → holdsHeader c ≡ true → Holds (lend true s) m
@@ -219,3 +124,83 @@ run-held s t m cs h g r = go r m h g
         let k = next (answer c (lengths (lend true s)) (some m)) m in
         let a = one-call c s t m n (all-head holdsHeader c cs g) h ch f in
         rw (a .lasting) at (go r k (a .holds) (all-tail holdsHeader c cs g))
+
+-- From a state that holds a message every call has a step, to the state that its answer leaves. Changed speaks of every message held:
+-- with the body store there is one; without it any other differs in the body's bytes alone, at which the call does not look.
+
+leaves-with : (s : State) (o : Out Message) → lend true (leavesState s o) ≡ leaves (lend true s) o
+unfolding leaves laidIn leavesState laidState
+leaves-with s (accepted k) = refl
+leaves-with s (refused r) = refl
+
+leaves-without : (s : State) (o : Out Message) → lend false (leavesState s o) ≡ leaves (lend false s) o
+unfolding leaves laidIn leavesState laidState
+leaves-without s (accepted k) = refl
+leaves-without s (refused r) = refl
+
+-- the body store is left as it was where the message keeps its body
+body-left : (s : State) (m : Message) (o : Out Message) → Holds (lend true s) m → ((k : Message) → o ≡ accepted k → k .body ≡ m .body)
+    → leavesState s o .body ≡ s .body
+unfolding leavesState laidState
+body-left s m (accepted k) h f =
+    let there : take (length (k .body)) (s .body) ≡ k .body = rw (f k refl) (h .stored) in
+    over-same (k .body) (s .body) there
+body-left s m (refused r) h f = refl
+
+-- the answer to what else is held, where no body store is lent
+other-answer : (c : Call) (s : State) (m k : Message) → takesBody c ≡ false → SameHead k m
+    → answer c (lengths (lend false s)) (some k) ≡ rebody (k .body) (answer c (lengths (lend true s)) (some m))
+unfolding lengths
+other-answer c s m k e a =
+    let bare = lengths (lend false s) in
+    let alike : k ≡ withBody m (k .body) =
+    λ i. record { headers = a .headers i; type = a .type i; contents = a .contents i; body = k .body } in
+    ap (λ x. answer c bare (some x)) alike
+    ∙ (answer-rebody (k .body) bare m c e ∙ ap (rebody (k .body)) (answer-head c bare (lengths (lend true s)) m e refl))
+
+-- What Changed asks of one held: the numbers n and the state k that is left.
+record Agrees (c : Call) (l k : Lent) (n : Numbers) (q : Option Message) : Type 0 where
+  answered : n ≡ numbers (answer c (lengths l) q)
+  left : k ≡ leaves l (answer c (lengths l) q)
+
+module _ (c : Call) (s : State) (m : Message) (h : Holds (lend true s) m) where
+  gives : Out Message
+  gives = answer c (lengths (lend true s)) (some m)
+
+  agrees : (b : Bool) → takesBody c ≡ b → {q : Option Message} → Held (lend b s) q
+      → Agrees c (lend b s) (lend b (leavesState s gives)) (numbers gives) q
+  unfolding gives
+  agrees true e (message {m = k} g) =
+      rw (holds-unique (lend true s) (s .body) k m refl g h) (record { answered = refl; left = leaves-with s gives })
+  agrees true e (nothing f) = absurd (f m h)
+  agrees false e (message {m = k} g) =
+      let a = holds-head-unique (lend false s) k m g (holds-head s m h) in
+      let o = other-answer c s m k e a in
+      let long : (x : Message) → gives ≡ accepted x → length (x .body) ≡ length (k .body) =
+      λ x y. ap length (answer-body c (lengths (lend true s)) m x y e) ∙ sym (a .body-length) in
+      record {
+        answered = sym (ap numbers o ∙ rebody-numbers (k .body) gives);
+        left = leaves-without s gives ∙ sym (ap (leaves (lend false s)) o ∙ rebody-leaves (k .body) (lend false s) gives refl long);
+      }
+  agrees false e (nothing f) = absurd (f m (holds-head s m h))
+
+  changed : Changed c (lend (takesBody c) s) (lend (takesBody c) (leavesState s gives)) (numbers gives)
+  changed =
+      record {
+        answered = λ q g. agrees (takesBody c) refl g .answered;
+        left = λ q g. agrees (takesBody c) refl g .left;
+      }
+
+  body-stays : takesBody c ≡ false → leavesState s gives .body ≡ s .body
+  unfolding gives
+  body-stays e = body-left s m gives h (λ k g. answer-body c (lengths (lend true s)) m k g e)
+
+pub runs-on : (s : State) (m : Message) → Holds (lend true s) m → (cs : List Call) → all holdsHeader cs ≡ true → (t : State) × Run s cs t
+runs-on s m h [] g = (s, done)
+runs-on s m h (c ∷ cs) g =
+    let o = gives c s m h in
+    let t = leavesState s o in
+    let ch = changed c s m h in
+    let a = one-call c s t m (numbers o) (all-head holdsHeader c cs g) h ch (body-stays c s m h) in
+    let r = runs-on t _ (a .holds) cs (all-tail holdsHeader c cs g) in
+    (r .0, step (numbers o) ch (body-stays c s m h) (r .1))
