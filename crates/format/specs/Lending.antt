@@ -31,6 +31,14 @@ overLent b (some store) = some (over b store)
 unfoldable pub laidIn : Lent → Message → Lent
 laidIn l m = record { message = recordOf m; head = over (layout m) (l .head); body = overLent (m .body) (l .body) }
 
+-- zeros over a store
+abbrev pub zeroed : Bytes → Bytes
+zeroed store = replicate (length store) 0
+
+abbrev pub zeroedLent : Option Bytes → Option Bytes
+zeroedLent none = none
+zeroedLent (some store) = some (zeroed store)
+
 -- A changing call: accepted, it lays out its message; refused, it changes no message and no lent byte.
 unfoldable pub leaves : Lent → Out Message → Lent
 leaves l (accepted m) = laidIn l m
@@ -49,14 +57,6 @@ makes l (refused r) = record { message = emptyMessage; head = l .head; body = l 
 pub record Made (t b : Bytes) (l k : Lent) (n : Numbers) : Type 0 where
   pub answered : n ≡ numbers (new t b (lengths l))
   pub left : k ≡ makes l (new t b (lengths l))
-
--- zeros over a store
-abbrev pub zeroed : Bytes → Bytes
-zeroed store = replicate (length store) 0
-
-abbrev pub zeroedLent : Option Bytes → Option Bytes
-zeroedLent none = none
-zeroedLent (some store) = some (zeroed store)
 
 -- The record and the stores after an accepted reading. What lies past the message in the head store is not fixed: lines on the way may
 -- have needed more.
