@@ -9,4 +9,6 @@ pub mod Room
 pub mod Layout
 pub mod Unique
 pub mod WithoutBody
+pub mod Handed
+pub mod Lone
 pub mod Runs

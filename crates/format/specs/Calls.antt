@@ -217,23 +217,37 @@ change (with-ns p u) stores m = addHeader (ascii "NS") (nsValue p u) stores m
 change (with-require v) stores m = addHeader (ascii "Require") v stores m
 change (with-content-header n v) stores m = addContentHeader n v stores m
 
+-- What a call is lent beside the head store: the body store, a header store (for a name, with what it holds), or nothing more.
+pub data Lends : Type 0 where
+  body-store : Lends
+  header-store : Bytes → Option LoneHeader → Lends
+  head-alone : Lends
+
+unfoldable pub lends : Call → Lends
+lends (set-body b) = body-store
+lends (set-header n v) = head-alone
+lends (add-header n v) = head-alone
+lends (add-header-obj n h) = header-store n h
+lends (add-content-header n v) = head-alone
+lends (with-from v) = head-alone
+lends (with-to v) = head-alone
+lends (with-datetime v) = head-alone
+lends (with-subject v) = head-alone
+lends (with-subject-lang v l) = head-alone
+lends (with-cc v) = head-alone
+lends (with-ns p u) = head-alone
+lends (with-require v) = head-alone
+lends (with-content-header n v) = head-alone
+
 -- 25 carrying 0 where a header is handed in that is not held
-unfoldable pub handedIn : Call → Check
-handedIn (set-body b) = pass
-handedIn (set-header n v) = pass
-handedIn (add-header n v) = pass
-handedIn (add-header-obj n none) = refused nothingHeld
-handedIn (add-header-obj n (some h)) = pass
-handedIn (add-content-header n v) = pass
-handedIn (with-from v) = pass
-handedIn (with-to v) = pass
-handedIn (with-datetime v) = pass
-handedIn (with-subject v) = pass
-handedIn (with-subject-lang v l) = pass
-handedIn (with-cc v) = pass
-handedIn (with-ns p u) = pass
-handedIn (with-require v) = pass
-handedIn (with-content-header n v) = pass
+unfoldable pub headerHeld : Lends → Check
+headerHeld body-store = pass
+headerHeld (header-store n none) = refused nothingHeld
+headerHeld (header-store n (some h)) = pass
+headerHeld head-alone = pass
+
+abbrev pub handedIn : Call → Check
+handedIn c = headerHeld (lends c)
 
 -- the answer of a changing call to what is held: 25 carrying 0 first, then 24, then the call's own checks
 unfoldable pub answer : Call → Stores → Option Message → Out Message

@@ -11,7 +11,7 @@ use Rattle.format.specs.Bytes.{Bytes, ascii, isEmpty, all, sameLetters, 
 use Rattle.format.specs.Characters.{isUtf8, isWhite, isLost, clearEnds}
 use Rattle.format.specs.Refusals.{Out, accepted, refused, _carrying_}
 use Rattle.format.specs.Message.{Entry, Header, Message, need, validAlone}
-use Rattle.format.specs.Calls.{Stores, Call, set-body, set-header, add-header, add-header-obj, add-content-header, with-from, with-to, with-datetime, with-subject, with-subject-lang, with-cc, with-ns, with-require, with-content-header, answer, new}
+use Rattle.format.specs.Calls.{Stores, Call, Lends, body-store, header-store, head-alone, lends, answer, new}
 use Rattle.format.specs.Writing.{write}
 use Rattle.format.specs.Reading.{read}
 use Rattle.format.specs.Layout.{Lent, Holds}
@@ -67,49 +67,43 @@ after stores m [] = m
 after stores m (c ∷ cs) = after stores (next (answer c stores (some m)) m) cs
 
 -- A header handed to `add_header_obj` counts as what it holds: a header within limits and validators, or nothing.
-unfoldable pub holdsHeader : Call → Bool
-holdsHeader (set-body b) = true
-holdsHeader (set-header n v) = true
-holdsHeader (add-header n v) = true
-holdsHeader (add-header-obj n none) = true
-holdsHeader (add-header-obj n (some h)) = validAlone h
-holdsHeader (add-content-header n v) = true
-holdsHeader (with-from v) = true
-holdsHeader (with-to v) = true
-holdsHeader (with-datetime v) = true
-holdsHeader (with-subject v) = true
-holdsHeader (with-subject-lang v l) = true
-holdsHeader (with-cc v) = true
-holdsHeader (with-ns p u) = true
-holdsHeader (with-require v) = true
-holdsHeader (with-content-header n v) = true
+unfoldable pub headerValid : Lends → Bool
+headerValid body-store = true
+headerValid (header-store n none) = true
+headerValid (header-store n (some h)) = validAlone h
+headerValid head-alone = true
+
+abbrev pub holdsHeader : Call → Bool
+holdsHeader c = headerValid (lends c)
 
 -- room for M: its need in head store and its body's length, or more
 abbrev pub RoomFor : Message → Stores → Type 0
 RoomFor m stores = (need m ≤ stores .head) × (length (m .body) ≤ stores .body)
 
--- How a list begins: an accepted `new` or `parse_cpim`, lent these stores, left the state s and defines m.
-pub data Begun (s : State) (m : Message) : Type 0 where
+-- How a list begins: an accepted `new` or `parse_cpim`, lent stores of these lengths, left the state s and defines m.
+pub data Begun (stores : Stores) (s : State) (m : Message) : Type 0 where
   by-new :
       (t b : Bytes) (l : Lent) (n : Numbers) →
       Made t b l (lend true s) n →
-      new t b (lengths l) ≡ accepted m →
-      Begun s m
+      stores ≡ lengths l →
+      new t b stores ≡ accepted m →
+      Begun stores s m
   by-reading :
       (t : Bytes) (l : Lent) (n : Numbers) →
       Parsed t l (lend true s) n →
-      read t (lengths l) ≡ accepted m →
-      Begun s m
+      stores ≡ lengths l →
+      read t stores ≡ accepted m →
+      Begun stores s m
 
 -- A list of changing calls, begun so, has led to the state t, and the message that it defines is m.
 pub record History (t : State) (m : Message) : Type 0 where
+  pub stores : Stores
   pub start : State
   pub first : Message
-  pub begun : Begun start first
+  pub begun : Begun stores start first
   pub calls : List Call
-  pub handed : all holdsHeader calls ≡ true
   pub run : Run start calls t
-  pub defined : m ≡ after (lengths (lend true start)) first calls
+  pub defined : m ≡ after stores first calls
 
 pub record Demand3 : Type 0 where
   -- The message held after the list is M, and no other.
@@ -118,16 +112,22 @@ pub record Demand3 : Type 0 where
   -- `to_string`, given room, writes M's text T.
   pub written : (t : State) (m : Message) →
       History t m →
-      (out new : Bytes) (n : Numbers) →
-      Wrote (lend true t) out new n →
+      (out text : Bytes) (n : Numbers) →
+      Wrote (lend true t) out text n →
       length (write m) ≤ length out →
-      (n ≡ 0 carrying 0) × (new ≡ over (write m) out)
-  -- Reading T, with room for M, gives M exactly under the condition.
+      (n ≡ 0 carrying 0) × (text ≡ over (write m) out)
+  -- Reading T, with room for M, gives M exactly under the condition: by the definition, and by `parse_cpim` from a state s to a state u.
   pub back : (t : State) (m : Message) →
       History t m →
       (stores : Stores) →
       RoomFor m stores →
       (read (write m) stores ≡ accepted m) ↔ (comesBack m ≡ true)
+  pub parsed : (t : State) (m : Message) →
+      History t m →
+      (s u : State) (n : Numbers) →
+      Parsed (write m) (lend true s) (lend true u) n →
+      RoomFor m (lengths (lend true s)) →
+      ((n ≡ 0 carrying 0) × Holds (lend true u) m) ↔ (comesBack m ≡ true)
   -- Two messages that both meet the condition have equal texts exactly when they are equal.
   pub equal : (t u : State) (m k : Message) →
       History t m →
@@ -135,5 +135,9 @@ pub record Demand3 : Type 0 where
       comesBack m ≡ true →
       comesBack k ≡ true →
       (write m ≡ write k) ↔ (m ≡ k)
-  -- Every list of calls has a run from every state that holds a message: none of this is said of nothing.
+  -- None of this is said of nothing: an accepted `new` or reading begins a list, every list of calls has a run from a state that holds a
+  -- message, and such a state has a writing.
+  pub begins-new : (s : State) (t b : Bytes) (m : Message) → new t b (lengths (lend true s)) ≡ accepted m → (u : State) × Begun (lengths (lend true s)) u m
+  pub begins-reading : (s : State) (t : Bytes) (m : Message) → read t (lengths (lend true s)) ≡ accepted m → (u : State) × Begun (lengths (lend true s)) u m
   pub runs : (s : State) (m : Message) → Holds (lend true s) m → (cs : List Call) → all holdsHeader cs ≡ true → (t : State) × Run s cs t
+  pub writes : (s : State) (m : Message) → Holds (lend true s) m → (out : Bytes) → (text : Bytes) × (n : Numbers) × Wrote (lend true s) out text n

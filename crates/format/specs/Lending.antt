@@ -7,8 +7,8 @@ use lib.ListN.{length, take, replicate}
 use Rattle.format.specs.Bytes.{Bytes, over}
 use Rattle.format.specs.Refusals.{Out, accepted, refused, numbers}
 use Rattle.format.specs.Message.{LoneHeader, Message, need}
-use Rattle.format.specs.Calls.{Stores, Call, answer, new, newHeader, withParam}
-use Rattle.format.specs.Writing.{toText}
+use Rattle.format.specs.Calls.{Stores, Call, add-header-obj, answer, new, newHeader, withParam}
+use Rattle.format.specs.Writing.{toText, writes}
 use Rattle.format.specs.Reading.{read}
 use Rattle.format.specs.Layout.{Lent, Held, HeldAlone, layout, recordOf, layoutAlone, headerOf, emptyMessage, emptyHeader}
 use Rattle.format.specs.declared.Numbers.{Numbers}
@@ -75,11 +75,7 @@ pub record Parsed (t : Bytes) (l k : Lent) (n : Numbers) : Type 0 where
   pub answered : n ≡ numbers (read t (lengths l))
   pub left : ReadLeaves l k (read t (lengths l))
 
--- `to_string`: the text at the output's start, bytes past it as they were; refused, it writes nothing.
-unfoldable pub writes : Bytes → Out Bytes → Bytes
-writes out (accepted t) = over t out
-writes out (refused r) = out
-
+-- `to_string`
 pub record Wrote (l : Lent) (out written : Bytes) (n : Numbers) : Type 0 where
   pub answered : (o : Option Message) → Held l o → n ≡ numbers (toText o (length out))
   pub left : (o : Option Message) → Held l o → written ≡ writes out (toText o (length out))
@@ -89,9 +85,13 @@ pub record LentHeader : Type 0 where
   pub header : CpimHeader
   pub store : Bytes
 
+-- the record and the store once a header is laid into them
+unfoldable pub laidAlone : Bytes → LoneHeader → LentHeader
+laidAlone store h = record { header = headerOf h; store = over (layoutAlone h) store }
+
 -- `CpimHeader::new`: refused, it hands back an empty record and writes nothing.
 unfoldable pub makesHeader : Bytes → Out LoneHeader → LentHeader
-makesHeader store (accepted h) = record { header = headerOf h; store = over (layoutAlone h) store }
+makesHeader store (accepted h) = laidAlone store h
 makesHeader store (refused r) = record { header = emptyHeader; store = store }
 
 pub record MadeHeader (v store : Bytes) (k : LentHeader) (n : Numbers) : Type 0 where
@@ -100,9 +100,13 @@ pub record MadeHeader (v store : Bytes) (k : LentHeader) (n : Numbers) : Type 0 
 
 -- `with_param`: refused, it changes nothing.
 unfoldable pub leavesHeader : LentHeader → Out LoneHeader → LentHeader
-leavesHeader l (accepted h) = record { header = headerOf h; store = over (layoutAlone h) (l .store) }
+leavesHeader l (accepted h) = laidAlone (l .store) h
 leavesHeader l (refused r) = l
 
 pub record ParamSet (name value : Bytes) (l k : LentHeader) (n : Numbers) : Type 0 where
   pub answered : (o : Option LoneHeader) → HeldAlone (l .header) (l .store) o → n ≡ numbers (withParam name value (length (l .store)) o)
   pub left : (o : Option LoneHeader) → HeldAlone (l .header) (l .store) o → k ≡ leavesHeader l (withParam name value (length (l .store)) o)
+
+-- `add_header_obj`: the header store is lent to be read, and the header counts as what it holds.
+pub record HeaderAdded (name : Bytes) (h : LentHeader) (l k : Lent) (n : Numbers) : Type 0 where
+  pub added : (o : Option LoneHeader) → HeldAlone (h .header) (h .store) o → Changed (add-header-obj name o) l k n

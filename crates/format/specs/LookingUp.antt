@@ -5,11 +5,12 @@ use mathlib.Core.List.{List, [], _∷_}
 use mathlib.Core.Option.{Option, none, some}
 use lib.Dec.{leb}
 use lib.ListN.{length, take}
-use Rattle.format.specs.Bytes.{Bytes, if_then_else_, total, has, upTo, past, occurs, less-sign, greater-sign, CRLFCRLF, over}
+use Rattle.format.specs.Bytes.{Bytes, if_then_else_, total, has, upTo, past, occurs, less-sign, greater-sign, CRLFCRLF}
 use Rattle.format.specs.Characters.{isUtf8}
 use Rattle.format.specs.Refusals.{Out, accepted, refused, Check, pass, _>>_, _>>=_}
 use Rattle.format.specs.Message.{Entry, LoneHeader, Header, nameOf, Message, only}
 use Rattle.format.specs.Calls.{enough, bodyLength}
+use Rattle.format.specs.Writing.{writes}
 use Rattle.format.specs.Reading.{textParts}
 
 module _ {A : Type 0} where
@@ -116,14 +117,9 @@ unfoldable pub bodyLengthOf : Out Bytes → ℕ
 bodyLengthOf (accepted b) = length b
 bodyLengthOf (refused r) = 0
 
--- a body at the buffer's start; a refused call writes nothing
-abbrev pub overStart : Out Bytes → Bytes → Bytes
-overStart (accepted b) buffer = over b buffer
-overStart (refused r) buffer = buffer
-
 -- the buffer after the first call: under LFLF the body at its start, and no other byte changes
 unfoldable pub bufferAfter : Bytes → Bytes → Bytes
-bufferAfter t buffer = if inText t then buffer else overStart (findBody t (length buffer)) buffer
+bufferAfter t buffer = if inText t then buffer else writes buffer (findBody t (length buffer))
 
 -- the part given by the second call
 abbrev pub partOf : Out Bytes → Bool → Bytes → ℕ → Bytes

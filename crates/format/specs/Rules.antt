@@ -9,12 +9,15 @@ use lib.ListN.{length, replicate}
 use Rattle.format.specs.Bytes.{Bytes, ascii, texts}
 use Rattle.format.specs.Characters.{trim, replaced, replacement}
 use Rattle.format.specs.Escaping.{escape, unescape}
-use Rattle.format.specs.Refusals.{accepted, _carrying_, numbers}
+use Rattle.format.specs.Refusals.{Refusal, accepted, refused, _carrying_, numbers}
 use Rattle.format.specs.Message.{entry, Message}
 use Rattle.format.specs.Calls.{new, setHeader, addHeader, addContentHeader, withParam, answer, add-header-obj, with-ns, with-subject-lang}
 use Rattle.format.specs.Reading.{read, readHeader, Parts, textParts}
 use Rattle.format.specs.LookingUp.{address, getHeader, getHeaderValue, getParam, getType, getBody, getContent, aloneValue, aloneParam, countHeaders, countParams, countContents, bodyAsStr, findBody, bodyLengthOf, bufferAfter, bodyPart}
 use Rattle.format.specs.Showing.{show, showcpim}
+use Rattle.format.specs.Writing.{writes}
+use Rattle.format.specs.Layout.{Lent, emptyMessage, emptyHeader}
+use Rattle.format.specs.Lending.{makes, leaves, zeroed, zeroedLent, ReadLeaves, LentHeader, makesHeader, leavesHeader}
 use Rattle.format.specs.Specimens.{roomy, single, back, withTwenty, twoSections}
 use Rattle.format.specs.Examples.{notice, readHeaderOf, readContentOf, letters, headersOf, paramsOf}
 
@@ -161,6 +164,17 @@ pub record Lookups : Type 0 where
   pub longText : (t : Bytes) (n : ℕ) → length t ≡ 20971521 → numbers (findBody t n) ≡ 1 carrying 20971521
   pub longBody : (t : Bytes) (n : ℕ) (p : Parts) → textParts t ≡ accepted p → length (p .body) ≡ 10485761 → numbers (findBody t n) ≡ 23 carrying 10485761
   pub refusedBody : (numbers (findBody (ascii "Hi") 9) ≡ 2 carrying 0) × (bodyLengthOf (findBody (ascii "Hi") 9) ≡ 0) × (bodyPart (ascii "Hi") (ascii "123") 2 ≡ [])
+
+-- Refused calls: `new` and `CpimHeader::new` hand back an empty record and write nothing, a reading writes zeros over both stores,
+-- `to_string` and changing calls write nothing.
+pub record Refused : Type 0 where
+  pub made : (l : Lent) (r : Refusal) → makes l (refused r) ≡ record { message = emptyMessage; head = l .head; body = l .body }
+  pub read : (l : Lent) (r : Refusal) → ReadLeaves l (record { message = emptyMessage; head = zeroed (l .head); body = zeroedLent (l .body) }) (refused r)
+  pub zeros : zeroed (ascii "Hi") ≡ 0 ∷ 0 ∷ []
+  pub written : (out : Bytes) (r : Refusal) → writes out (refused r) ≡ out
+  pub changed : (l : Lent) (r : Refusal) → leaves l (refused r) ≡ l
+  pub madeHeader : (store : Bytes) (r : Refusal) → makesHeader store (refused r) ≡ record { header = emptyHeader; store = store }
+  pub paramSet : (l : LentHeader) (r : Refusal) → leavesHeader l (refused r) ≡ l
 
 -- What `showcpim` prints
 pub record Shown : Type 0 where

@@ -5,9 +5,9 @@ use mathlib.Core.Bool.{Bool, true, false}
 use mathlib.Core.List.{List, [], _∷_}
 use mathlib.Core.Option.{none, some}
 use Rattle.format.specs.Bytes.{Bytes}
-use Rattle.format.specs.Calls.{Call, set-body, set-header, add-header, add-header-obj, add-content-header, with-from, with-to, with-datetime, with-subject, with-subject-lang, with-cc, with-ns, with-require, with-content-header}
-use Rattle.format.specs.Layout.{Lent}
-use Rattle.format.specs.Lending.{Changed}
+use Rattle.format.specs.Calls.{Call, Lends, body-store, header-store, head-alone, lends}
+use Rattle.format.specs.Layout.{Lent, HeldAlone}
+use Rattle.format.specs.Lending.{LentHeader, Changed, HeaderAdded}
 use Rattle.format.specs.declared.Numbers.{Numbers}
 use Rattle.format.specs.declared.CpimMessage.{CpimMessage}
 
@@ -23,27 +23,25 @@ lend true s = record { message = s .message; head = s .head; body = some (s .bod
 lend false s = record { message = s .message; head = s .head; body = none }
 
 -- which calls are lent the body store
-unfoldable pub takesBody : Call → Bool
-takesBody (set-body b) = true
-takesBody (set-header n v) = false
-takesBody (add-header n v) = false
-takesBody (add-header-obj n h) = false
-takesBody (add-content-header n v) = false
-takesBody (with-from v) = false
-takesBody (with-to v) = false
-takesBody (with-datetime v) = false
-takesBody (with-subject v) = false
-takesBody (with-subject-lang v l) = false
-takesBody (with-cc v) = false
-takesBody (with-ns p u) = false
-takesBody (with-require v) = false
-takesBody (with-content-header n v) = false
+unfoldable pub isBody : Lends → Bool
+isBody body-store = true
+isBody (header-store n o) = false
+isBody head-alone = false
+
+abbrev pub takesBody : Call → Bool
+takesBody c = isBody (lends c)
+
+-- What the call ensures of what it is lent and leaves. A header handed in counts as what its record and store hold.
+abbrev pub Ensured : Lends → Call → Lent → Lent → Numbers → Type 0
+Ensured body-store c l k n = Changed c l k n
+Ensured (header-store name o) c l k n = (h : LentHeader) × HeldAlone (h .header) (h .store) o × HeaderAdded name h l k n
+Ensured head-alone c l k n = Changed c l k n
 
 -- A run of calls, refused ones among them; nobody else writes the stores meanwhile.
 pub data Run : State → List Call → State → Type 0 where
   done : {s : State} → Run s [] s
   step : {c : Call} {cs : List Call} {s t u : State} (n : Numbers) →
-      Changed c (lend (takesBody c) s) (lend (takesBody c) t) n →
+      Ensured (lends c) c (lend (takesBody c) s) (lend (takesBody c) t) n →
       (takesBody c ≡ false → t .body ≡ s .body) →
       Run t cs u →
       Run s (c ∷ cs) u

@@ -3,7 +3,7 @@ use Prim.Native.Nat.{ℕ}
 use mathlib.Core.List.{_++_}
 use mathlib.Core.Option.{Option, none, some}
 use lib.ListN.{length}
-use Rattle.format.specs.Bytes.{Bytes, ascii, texts, CRLF}
+use Rattle.format.specs.Bytes.{Bytes, ascii, texts, CRLF, over}
 use Rattle.format.specs.Characters.{replaced}
 use Rattle.format.specs.Escaping.{escape}
 use Rattle.format.specs.Refusals.{Out, accepted, refused, nothingHeld, _>>_}
@@ -38,6 +38,11 @@ write m =
     ++ (CRLF
     ++ (texts (λ h. ended (headerLine h)) (m .headers)
     ++ (CRLF ++ (ended (typeLine (m .type)) ++ (texts (λ e. ended (contentLine e)) (m .contents) ++ (CRLF ++ replaced (m .body)))))))
+
+-- an answer's text at the start of an output, bytes past it as they were; a refused call writes nothing
+unfoldable pub writes : Bytes → Out Bytes → Bytes
+writes out (accepted t) = over t out
+writes out (refused r) = out
 
 -- `to_string`: only 25 carrying 0, then 26, can refuse
 unfoldable pub toText : Option Message → ℕ → Out Bytes

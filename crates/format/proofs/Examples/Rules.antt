@@ -7,9 +7,11 @@ use Rattle.format.specs.Refusals.{accepted, numbers, table, _carrying_, 
 use Rattle.format.specs.Calls.{bodyLength}
 use Rattle.format.specs.Reading.{read, Parts, textParts}
 use Rattle.format.specs.LookingUp.{bodyOfText, findBody}
+use Rattle.format.specs.Writing.{writes}
+use Rattle.format.specs.Lending.{makes, leaves, makesHeader, leavesHeader}
 use Rattle.format.specs.Showing.{digitsFrom, decimal, showNumbers, showMessage, show, showcpim}
 use Rattle.format.specs.Specimens.{roomy}
-use Rattle.format.specs.Rules.{Mistakes, Order, Rules, Lookups, Shown}
+use Rattle.format.specs.Rules.{Mistakes, Order, Rules, Lookups, Refused, Shown}
 use Rattle.format.proofs.Examples.Computing.{computing}
 
 pub mistakes : Mistakes
@@ -57,6 +59,19 @@ lookups =
       longText = long-text;
       longBody = long-body;
       refusedBody = (refl, refl, refl);
+    }
+
+pub refused-calls : Refused
+unfolding makes writes leaves makesHeader leavesHeader
+refused-calls =
+    record {
+      made = λ l r. refl;
+      read = λ l r. refl;
+      zeros = refl;
+      written = λ out r. refl;
+      changed = λ l r. refl;
+      madeHeader = λ store r. refl;
+      paramSet = λ l r. refl;
     }
 
 at-most : (input : Bytes) → length input ≡ 65536 → showcpim input ≡ show (read input roomy)

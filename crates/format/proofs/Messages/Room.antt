@@ -11,8 +11,8 @@ use lib.ListN.{length}
 use Rattle.format.specs.Bytes.{Bytes, ascii}
 use Rattle.format.specs.Refusals.{accepted, nothingHeld}
 use Rattle.format.specs.Message.{LoneHeader, named, Message, need}
-use Rattle.format.specs.Calls.{Stores, setBody, addHeaderObj, addHeader, setHeader, addContentHeader, Call, set-body, set-header, add-header, add-header-obj, add-content-header, with-from, with-to, with-datetime, with-subject, with-subject-lang, with-cc, with-ns, with-require, with-content-header, nsValue, change, answer}
-use Rattle.format.specs.Runs.{takesBody}
+use Rattle.format.specs.Calls.{Stores, setBody, addHeaderObj, addHeader, setHeader, addContentHeader, Call, set-body, set-header, add-header, add-header-obj, add-content-header, with-from, with-to, with-datetime, with-subject, with-subject-lang, with-cc, with-ns, with-require, with-content-header, nsValue, change, answer, lends}
+use Rattle.format.specs.Runs.{takesBody, isBody}
 use Rattle.format.proofs.Lists.{clash}
 use Rattle.format.proofs.Steps.{refused-accepted, bind-accepted}
 use Rattle.format.proofs.Messages.Accepted.{setBody-accepted, setHeader-accepted, append-accepted, addHeaderObj-accepted, addHeader-accepted, addContentHeader-accepted, answer-accepted}
@@ -30,7 +30,7 @@ record Kept (st : Stores) (m k : Message) : Type 0 where
 
 module _ (st : Stores) (m k : Message) where
   stored : (b : Bytes) → setBody b st m ≡ accepted k → Stored (set-body b) st m k
-  unfolding need takesBody
+  unfolding need isBody lends
   stored b h =
       let a = setBody-accepted b st m k h in
       record { lent = refl; fits = rw (a .0) (a .2); rest = rw (a .0) refl }

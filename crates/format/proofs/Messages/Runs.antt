@@ -21,6 +21,7 @@ use Rattle.format.proofs.Messages.Layout.{layout-length, over-length, o
 use Rattle.format.proofs.Messages.Unique.{SameHead, holds-head-unique, holds-unique}
 use Rattle.format.proofs.Messages.Valid.{answer-valid}
 use Rattle.format.proofs.Messages.Room.{answer-room, answer-space, answer-body}
+use Rattle.format.proofs.Messages.Handed.{ensured-changed, ensured-handed, changed-ensured}
 use Rattle.format.proofs.Messages.WithoutBody.{answer-head, rebody, answer-rebody, rebody-numbers, rebody-leaves}
 
 -- A state with a message laid into its stores.
@@ -112,18 +113,20 @@ one-call c s t m n g h ch f =
       answer-space c st m k e (holds-space s m h),
     )))
 
-pub run-held : (s t : State) (m : Message) (cs : List Call) → Holds (lend true s) m → all holdsHeader cs ≡ true → Run s cs t
+pub run-held : (s t : State) (m : Message) (cs : List Call) → Holds (lend true s) m → Run s cs t
     → Holds (lend true t) (after (lengths (lend true s)) m cs)
 unfolding after
-run-held s t m cs h g r = go r m h g
+run-held s t m cs h r = go r m h
   where
-    go : {s : State} {cs : List Call} {t : State} → Run s cs t → (m : Message) → Holds (lend true s) m → all holdsHeader cs ≡ true
+    go : {s : State} {cs : List Call} {t : State} → Run s cs t → (m : Message) → Holds (lend true s) m
         → Holds (lend true t) (after (lengths (lend true s)) m cs)
-    go done m h g = h
-    go (step {c = c} {cs = cs} {s = s} {t = t} {u = u} n ch f r) m h g =
+    go done m h = h
+    go (step {c = c} {cs = cs} {s = s} {t = t} {u = u} n e f r) m h =
         let k = next (answer c (lengths (lend true s)) (some m)) m in
-        let a = one-call c s t m n (all-head holdsHeader c cs g) h ch f in
-        rw (a .lasting) at (go r k (a .holds) (all-tail holdsHeader c cs g))
+        let l = lend (takesBody c) s in
+        let j = lend (takesBody c) t in
+        let a = one-call c s t m n (ensured-handed c l j n e) h (ensured-changed c l j n e) f in
+        rw (a .lasting) at (go r k (a .holds))
 
 -- From a state that holds a message every call has a step, to the state that its answer leaves. Changed speaks of every message held:
 -- with the body store there is one; without it any other differs in the body's bytes alone, at which the call does not look.
@@ -203,4 +206,5 @@ runs-on s m h (c ∷ cs) g =
     let ch = changed c s m h in
     let a = one-call c s t m (numbers o) (all-head holdsHeader c cs g) h ch (body-stays c s m h) in
     let r = runs-on t _ (a .holds) cs (all-tail holdsHeader c cs g) in
-    (r .0, step (numbers o) ch (body-stays c s m h) (r .1))
+    let e = changed-ensured c (lend (takesBody c) s) (lend (takesBody c) t) (numbers o) (all-head holdsHeader c cs g) ch in
+    (r .0, step {c = c} {s = s} {t = t} (numbers o) e (body-stays c s m h) (r .1))

@@ -10,8 +10,8 @@ use Rattle.format.specs.Bytes.{Bytes, ascii, all}
 use Rattle.format.specs.Characters.{isUtf8}
 use Rattle.format.specs.Refusals.{Out, accepted, refused, nothingHeld}
 use Rattle.format.specs.Message.{Entry, entry, LoneHeader, Header, nameOf, named, Message, without, ascending, increasing, validAlone, valid}
-use Rattle.format.specs.Calls.{Stores, new, setBody, setHeader, append, addHeaderObj, addHeader, addContentHeader, aloneOf, setParam, addParam, newHeader, withParam, Call, set-body, set-header, add-header, add-header-obj, add-content-header, with-from, with-to, with-datetime, with-subject, with-subject-lang, with-cc, with-ns, with-require, with-content-header, arguments, nsValue, change, answer}
-use Rattle.format.specs.Demand3.{holdsHeader, next, after}
+use Rattle.format.specs.Calls.{Stores, new, setBody, setHeader, append, addHeaderObj, addHeader, addContentHeader, aloneOf, setParam, addParam, newHeader, withParam, Call, set-body, set-header, add-header, add-header-obj, add-content-header, with-from, with-to, with-datetime, with-subject, with-subject-lang, with-cc, with-ns, with-require, with-content-header, arguments, nsValue, change, answer, lends}
+use Rattle.format.specs.Demand3.{holdsHeader, next, after, headerValid}
 use Rattle.format.proofs.Lists.{all-head, all-tail}
 use Rattle.format.proofs.Characters.Chars.{utf8-append, utf8-ascii-text}
 use Rattle.format.proofs.Steps.{refused-accepted, bind-accepted}
@@ -171,7 +171,7 @@ subject-within v l st m k x y w h =
 
 change-within : (c : Call) (st : Stores) (m k : Message) → holdsHeader c ≡ true → all isUtf8 (arguments c) ≡ true → Within m
     → change c st m ≡ accepted k → Within k
-unfolding change arguments holdsHeader all
+unfolding change arguments headerValid lends all
 change-within (set-body b) st m k g u w h = setBody-within st m k w b h
 change-within (set-header n v) st m k g u w h = setHeader-within st m k w n v (first n v u) (second n v u) h
 change-within (add-header n v) st m k g u w h = addHeader-within st m k w n v (first n v u) (second n v u) h

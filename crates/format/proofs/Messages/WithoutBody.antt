@@ -8,10 +8,10 @@ use lib.ListN.{length}
 use Rattle.format.specs.Bytes.{Bytes, ascii}
 use Rattle.format.specs.Refusals.{Out, accepted, refused, numbers, Check, _>>_, _>>=_}
 use Rattle.format.specs.Message.{LoneHeader, Header, Message, need}
-use Rattle.format.specs.Calls.{Stores, room, ifRoom, withBody, setHeader, append, addHeaderObj, addHeader, addContentHeader, aloneOf, addParam, nsValue, Call, set-body, set-header, add-header, add-header-obj, add-content-header, with-from, with-to, with-datetime, with-subject, with-subject-lang, with-cc, with-ns, with-require, with-content-header, change, answer}
+use Rattle.format.specs.Calls.{Stores, room, ifRoom, withBody, setHeader, append, addHeaderObj, addHeader, addContentHeader, aloneOf, addParam, nsValue, Call, set-body, set-header, add-header, add-header-obj, add-content-header, with-from, with-to, with-datetime, with-subject, with-subject-lang, with-cc, with-ns, with-require, with-content-header, change, answer, lends}
 use Rattle.format.specs.Layout.{layout, recordOf, Lent}
 use Rattle.format.specs.Lending.{laidIn, leaves}
-use Rattle.format.specs.Runs.{takesBody}
+use Rattle.format.specs.Runs.{takesBody, isBody}
 use Rattle.format.proofs.Lists.{clash}
 
 -- The length of the body store.
@@ -21,7 +21,7 @@ abbrev bare : ℕ → Stores
 bare n = record { head = n; body = 0 }
 
 change-bare : (c : Call) (st : Stores) (m : Message) → takesBody c ≡ false → change c st m ≡ change c (bare (st .head)) m
-unfolding change setHeader append addHeaderObj addHeader addContentHeader takesBody
+unfolding change setHeader append addHeaderObj addHeader addContentHeader isBody lends
 change-bare (set-body b) st m h = clash refl h
 change-bare (set-header n v) st m h = refl
 change-bare (add-header n v) st m h = refl
@@ -87,7 +87,7 @@ module _ (b : Bytes) where
     content-rebody n v = simp (← then-rebody, ← room-rebody)
 
     change-rebody : (c : Call) → takesBody c ≡ false → change c st (withBody m b) ≡ rebody b (change c st m)
-    unfolding change takesBody rebody
+    unfolding change isBody lends rebody
     change-rebody (set-body x) h = clash refl h
     change-rebody (set-header n v) h = set-rebody n v
     change-rebody (add-header n v) h = add-rebody n v
