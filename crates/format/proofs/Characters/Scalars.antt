@@ -19,19 +19,19 @@ below : (n k : ℕ) → (n < k) ⊎ (k ≤ n)
 below n k = ⊎-elim (λ t. inl (ltb-true n k t)) (λ f. inr (ltb-false n k f)) (bcase (ltb n k))
 
 -- the encoding by the size of the number
-encoding-one : (n : ℕ) → n < 0x80 → encoding n ≡ n ∷ []
+pub encoding-one : (n : ℕ) → n < 0x80 → encoding n ≡ n ∷ []
 unfolding encoding
 encoding-one n h = rw (lt-ltb n 0x80 h) refl
 
-encoding-two : (n : ℕ) → 0x80 ≤ n → n < 0x800 → encoding n ≡ (0xC0 + n / 64) ∷ (0x80 + n % 64) ∷ []
+pub encoding-two : (n : ℕ) → 0x80 ≤ n → n < 0x800 → encoding n ≡ (0xC0 + n / 64) ∷ (0x80 + n % 64) ∷ []
 unfolding encoding
 encoding-two n h i = rw (le-ltb n 0x80 h, lt-ltb n 0x800 i) refl
 
-encoding-three : (n : ℕ) → 0x800 ≤ n → n < 0x10000 → encoding n ≡ (0xE0 + n / 4096) ∷ (0x80 + n / 64 % 64) ∷ (0x80 + n % 64) ∷ []
+pub encoding-three : (n : ℕ) → 0x800 ≤ n → n < 0x10000 → encoding n ≡ (0xE0 + n / 4096) ∷ (0x80 + n / 64 % 64) ∷ (0x80 + n % 64) ∷ []
 unfolding encoding
 encoding-three n h i = rw (le-ltb n 0x80 (omega arith), le-ltb n 0x800 h, lt-ltb n 0x10000 i) refl
 
-encoding-four : (n : ℕ) → 0x10000 ≤ n → encoding n ≡ (0xF0 + n / 262144) ∷ (0x80 + n / 4096 % 64) ∷ (0x80 + n / 64 % 64) ∷ (0x80 + n % 64) ∷ []
+pub encoding-four : (n : ℕ) → 0x10000 ≤ n → encoding n ≡ (0xF0 + n / 262144) ∷ (0x80 + n / 4096 % 64) ∷ (0x80 + n / 64 % 64) ∷ (0x80 + n % 64) ∷ []
 unfolding encoding
 encoding-four n h = rw (le-ltb n 0x80 (omega arith), le-ltb n 0x800 (omega arith), le-ltb n 0x10000 h) refl
 

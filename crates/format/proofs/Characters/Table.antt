@@ -131,7 +131,7 @@ matched-cut (r ∷ rs) [] b t h k =
 matched-cut (r ∷ rs) (a ∷ s) b t h k = rw (matched-cut rs s b t (and-right (leb 128 (r .first)) (upper rs) h) k) refl
 
 -- a number above a range is not in it
-within-above : (n : ℕ) (r : Range) → r .last < n → within n r ≡ false
+pub within-above : (n : ℕ) (r : Range) → r .last < n → within n r ≡ false
 within-above n r h = rw (lt-leb n (r .last) h) (and-false (leb (r .first) n))
 
 -- each lead range lies below all later ones

@@ -80,11 +80,11 @@ four-ascii a b c d n h =
     (first-ascii a (z .0) (z .2), digit-ascii b (z .1) (z .3), digit-ascii c (y .1) (y .3), digit-ascii d (x .1) (x .3))
 
 -- What holds of an escape that the bytes s behind a backslash begin with.
-record Sound (s : Bytes) (e : Escape) : Type 0 where
-  whole : wellFormed (e .stands) ≡ true
-  rest : isUtf8 s ≡ true → isUtf8 (drop (e .takes) s) ≡ true
-  small : length (e .stands) ≤ suc (e .takes)
-  fits : e .takes ≤ length s
+pub record Sound (s : Bytes) (e : Escape) : Type 0 where
+  pub whole : wellFormed (e .stands) ≡ true
+  pub rest : isUtf8 s ≡ true → isUtf8 (drop (e .takes) s) ≡ true
+  pub small : length (e .stands) ≤ suc (e .takes)
+  pub fits : e .takes ≤ length s
 
 tail-utf8 : (b : ℕ) (t : Bytes) → b < 128 → isUtf8 (b ∷ t) ≡ true → isUtf8 t ≡ true
 tail-utf8 b t l h = sym (utf8-ascii b t l) ∙ h
@@ -145,7 +145,7 @@ letter-sound u (a ∷ b ∷ []) e l h = nothing e h
 letter-sound u (a ∷ b ∷ c ∷ []) e l h = nothing e h
 letter-sound u (a ∷ b ∷ c ∷ d ∷ s) e l h = long-sound u a b c d s e l h
 
-sound : (s : Bytes) (e : Escape) → escapeAt s ≡ some e → Sound s e
+pub sound : (s : Bytes) (e : Escape) → escapeAt s ≡ some e → Sound s e
 unfolding escapeAt
 sound [] e h = nothing e h
 sound (c ∷ s) e h = branch (eqb c 117) _ _ e (λ t k. letter-sound c s e (omega (arith, eqb-true c 117 t)) k) (short-sound c s e) h

@@ -1,0 +1,5 @@
+pub mod Units
+pub mod BareBytes
+pub mod Forms
+pub mod Digits
+pub mod Escapes

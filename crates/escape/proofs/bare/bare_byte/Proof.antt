@@ -1,0 +1,40 @@
+use mathlib.Core.Path.{_≡_, refl, sym, ap, _∙_}
+use mathlib.Core.Bool.{Bool, true, false}
+use mathlib.Core.List.{List, [], _∷_, _++_}
+use mathlib.Core.Logic.{⊎-elim}
+use Prim.Native.Nat.{ℕ, zero, suc, _+_, _-_, _*_, _≤_, _<_}
+use native.Mathlib.Nat.{add-zero}
+use native.Mathlib.Numerals.{add-one}
+use native.Mathlib.Omega.{arith}
+use lib.ListN.{length, take, drop, getD, set, length-set, length-take, length-drop, length-append}
+use borrow.Author.Needs.{needs}
+use Rattle.escape.specs.Forms.{isBare}
+use Rattle.escape.proofs.BareBytes.{bare-rest}
+use Rattle.escape.proofs.bare.bare_byte.Statement.{statement}
+use Rattle.escape.proofs.bare.bare_byte.Tie as tie
+use Rattle.escape.proofs.bare.bare_byte.Reads as reads
+use Rattle.escape.proofs.bare.bare_byte.Lts as lts
+
+returns : tie.Need-returns
+unfolding isBare
+returns c = rw (c .match .keys1) refl
+
+returns-2 : tie.Need-returns-2
+unfolding isBare
+returns-2 c = rw (c .match .keys2) refl
+
+returns-3 : tie.Need-returns-3
+unfolding isBare
+returns-3 c = rw (c .match .keys3) refl
+
+returns-4 : tie.Need-returns-4
+unfolding isBare
+returns-4 c = rw (c .match .keys4) refl
+
+returns-5 : tie.Need-returns-5
+returns-5 c =
+    let r = c .match .rest in
+    bare-rest (c .before .args .b) (r .0 .0 .0 .1) (r .0 .0 .1) (r .0 .1) (r .1)
+
+pub bare-byte-spec : {M : Type 1} → statement M
+bare-byte-spec = tie.close (tie.spec returns returns-2 returns-3 returns-4 returns-5)

@@ -1,0 +1,61 @@
+use mathlib.Core.Path.{_≡_, refl, sym, ap, _∙_}
+use mathlib.Core.Bool.{Bool, true, false}
+use mathlib.Core.List.{List, [], _∷_, _++_}
+use mathlib.Core.Logic.{⊎-elim}
+use Prim.Native.Nat.{ℕ, zero, suc, _+_, _-_, _*_, _≤_, _<_}
+use native.Mathlib.Nat.{add-zero}
+use native.Mathlib.Numerals.{add-one}
+use native.Mathlib.Omega.{arith}
+use lib.ListN.{length, take, drop, getD, set, length-set, length-take, length-drop, length-append}
+use lib.Dec.{eqb, ltb}
+use lib.Seq.{take-all}
+use borrow.Author.Needs.{needs}
+use borrow.Author.Tests.{lt-ltb, le-ltb, eq-eqb, ne-eqb}
+use Rattle.format.specs.Bytes.{any, has}
+use Rattle.escape.specs.Forms.{isLow}
+use Rattle.escape.proofs.BareBytes.{any-start, any-hit, any-miss}
+use Rattle.escape.proofs.bare.has_byte.Statement.{statement}
+use Rattle.escape.proofs.bare.has_byte.Tie as tie
+use Rattle.escape.proofs.bare.has_byte.Reads as reads
+use Rattle.escape.proofs.bare.has_byte.Lts as lts
+
+abbrev Inv-loop : tie.InvT-loop
+Inv-loop block c hit₀ k₀ hit k = (k ≤ 16) × (hit ≡ any (eqb c) (take k block))
+
+abbrev μ-loop : tie.MeasureT-loop
+μ-loop block c hit₀ k₀ hit k = 16 - k
+
+loop-holds : tie.Need-loop-holds Inv-loop μ-loop
+loop-holds c = let args = c .args in (omega arith, any-start (eqb (args .c)) (args .block .now))
+
+shared-slice-read-if1 : tie.Need-shared-slice-read-if1 Inv-loop μ-loop
+shared-slice-read-if1 c = search needs
+
+add-k : tie.Need-add-k Inv-loop μ-loop
+add-k c = search needs
+
+loop-less : tie.Need-loop-less Inv-loop μ-loop
+loop-less c = search needs
+
+loop-again : tie.Need-loop-again Inv-loop μ-loop
+loop-again c =
+    let at-loop = c .before .before .before in
+    let args = at-loop .before .args in
+    let k = at-loop .loop .k in
+    let s = args .block .now in
+    (
+      omega arith,
+      ⊎-elim (λ w. w .1 ∙ any-hit (eqb (args .c)) s k (omega arith) (eq-eqb (args .c) (getD s k 0) (sym (w .0 .taken))))
+          (λ w. w .1 ∙ at-loop .loop .inv .1 ∙ any-miss (eqb (args .c)) s k (omega arith) (ne-eqb (args .c) (getD s k 0) (λ e. w .0 .left (sym e))))
+          (c .if1 .came),
+    )
+
+returns : tie.Need-returns Inv-loop μ-loop
+returns c =
+    let args = c .before .before .args in
+    c .before .loop .inv .1 ∙ ap (any (eqb (args .c))) (take-all (c .before .loop .k) (args .block .now) (omega arith))
+
+pub has-byte-spec : {M : Type 1} → statement M
+has-byte-spec =
+    tie.close
+    (tie.spec Inv-loop μ-loop loop-holds shared-slice-read-if1 add-k loop-less loop-again returns)

@@ -1,0 +1,30 @@
+use mathlib.Core.Path.{_≡_, refl, sym, ap, _∙_}
+use mathlib.Core.Bool.{Bool, true, false}
+use mathlib.Core.List.{List, [], _∷_, _++_}
+use mathlib.Core.Logic.{⊎-elim}
+use Prim.Native.Nat.{ℕ, zero, suc, _+_, _-_, _*_, _≤_, _<_}
+use native.Mathlib.Nat.{add-zero}
+use native.Mathlib.Numerals.{add-one}
+use native.Mathlib.Omega.{arith}
+use lib.ListN.{length, take, drop, getD, set, length-set, length-take, length-drop, length-append}
+use borrow.Author.Needs.{needs}
+use Rattle.format.proofs.Characters.Scalars.{encoding-one, encoding-two, encoding-three, encoding-four}
+use Rattle.escape.proofs.reading.code_len.Statement.{statement}
+use Rattle.escape.proofs.reading.code_len.Tie as tie
+use Rattle.escape.proofs.reading.code_len.Reads as reads
+use Rattle.escape.proofs.reading.code_len.Lts as lts
+
+returns : tie.Need-returns
+returns c = sym (ap length (encoding-one (c .before .args .n) (omega arith)))
+
+returns-2 : tie.Need-returns-2
+returns-2 c = sym (ap length (encoding-two (c .before .before .args .n) (omega arith) (omega arith)))
+
+returns-3 : tie.Need-returns-3
+returns-3 c = sym (ap length (encoding-three (c .before .before .before .args .n) (omega arith) (omega arith)))
+
+returns-4 : tie.Need-returns-4
+returns-4 c = sym (ap length (encoding-four (c .before .before .before .args .n) (omega arith)))
+
+pub code-len-spec : {M : Type 1} → statement M
+code-len-spec = tie.close (tie.spec returns returns-2 returns-3 returns-4)

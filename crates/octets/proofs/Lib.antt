@@ -1,0 +1,4 @@
+pub mod Paste
+pub mod Find
+pub mod Shifting
+pub mod Compare

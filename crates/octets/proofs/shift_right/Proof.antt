@@ -1,0 +1,76 @@
+-- `octets::shift_right` meets its contract. The invariant: the bytes from i on are moved. Assumes nothing.
+use mathlib.Core.Path.{_≡_, refl, _∙_}
+use Prim.Native.Nat.{_+_, _-_, _≤_}
+use native.Mathlib.Nat.{add-zero}
+use native.Mathlib.Omega.{arith}
+use lib.ListN.{length, take, drop}
+use borrow.Author.Needs.{needs}
+use Rattle.format.specs.Bytes.{pasted}
+use Rattle.octets.proofs.Shifting.{shifted-right, shifted-none}
+use Rattle.octets.proofs.shift_right.Statement.{statement}
+use Rattle.octets.proofs.shift_right.Tie as tie
+
+abbrev Inv-loop : tie.InvT-loop
+Inv-loop s₀ from to n i₀ s i = (i ≤ n) × (s ≡ pasted (to + i) (drop i (take n (drop from s₀))) s₀) × (length s ≡ length s₀)
+
+abbrev μ-loop : tie.MeasureT-loop
+μ-loop s₀ from to n i₀ s i = i
+
+loop-holds : tie.Need-loop-holds Inv-loop μ-loop
+loop-holds c =
+    let args = c .before .args in
+    (omega arith, shifted-none (args .from) (args .to) (args .n) (args .s .now), refl)
+
+add-shift-part : tie.Need-add-shift-part Inv-loop μ-loop
+add-shift-part c = omega arith
+
+add-shift-part-2 : tie.Need-add-shift-part-2 Inv-loop μ-loop
+add-shift-part-2 c = omega arith
+
+shift-part-requires : tie.Need-shift-part-requires Inv-loop μ-loop
+shift-part-requires c κs = omega arith
+
+loop-less : tie.Need-loop-less Inv-loop μ-loop
+loop-less c = omega arith
+
+loop-again : tie.Need-loop-again Inv-loop μ-loop
+loop-again c =
+    let at-loop = c .before .before .before .before .before in
+    let args = at-loop .before .before .args in
+    let i = at-loop .loop .i in (
+      omega arith,
+      c .before .before .shift-part .ensures
+          ∙ shifted-right (args .from) (args .to) (args .n) (i - 32) 32 i (args .s .now) (at-loop .loop .s) (omega arith) (omega arith) (omega arith) (omega arith) (at-loop .loop .inv .1),
+      omega arith,
+    )
+
+shift-part-requires-2 : tie.Need-shift-part-requires-2 Inv-loop μ-loop
+shift-part-requires-2 c κs = omega arith
+
+same-length : tie.Need-same-length Inv-loop μ-loop
+same-length c = search needs
+
+returns : tie.Need-returns Inv-loop μ-loop
+returns c =
+    let at-loop = c .before .before .before .before .before in
+    let args = at-loop .before .before .args in
+    let i = at-loop .loop .i in
+    let step =
+    shifted-right (args .from) (args .to) (args .n) 0 i i (args .s .now) (at-loop .loop .s) (omega arith) (omega arith) (omega arith) (omega arith) (at-loop .loop .inv .1) in
+    c .before .before .shift-part2 .ensures ∙ (simp add-zero at step)
+
+pub shift-right-spec : {M : Type 1} → statement M
+shift-right-spec =
+    tie.close
+    (tie.spec
+    Inv-loop
+    μ-loop
+    loop-holds
+    add-shift-part
+    add-shift-part-2
+    shift-part-requires
+    loop-less
+    loop-again
+    shift-part-requires-2
+    same-length
+    returns)

@@ -1,0 +1,103 @@
+-- The sections joined, piece by piece: what a cut says of the whole, and what has been written so far. Assumes nothing.
+use Prim.Native.Nat.{ℕ, _+_, _≤_}
+use mathlib.Core.Path.{_≡_, refl, sym, ap, _∙_}
+use mathlib.Core.Bool.{true, false}
+use mathlib.Core.List.{[], _∷_, _++_, append-assoc, append-nil}
+use mathlib.Core.Logic.{⊎-elim}
+use native.Mathlib.Omega.{arith}
+use lib.ListN.{length, take, drop, length-append, length-drop}
+use lib.Seq.{length-take-le, take-add, drop-drop, take-append-seam, drop-append-seam, take-length}
+use Rattle.format.specs.Bytes.{Bytes, cr, lf, LFLF, CRLFCRLF, pieces, split, pasted}
+use Rattle.format.specs.Reading.{bodyOf}
+use Rattle.format.proofs.Lists.{bcase}
+use Rattle.format.proofs.Splitting.Split.{join-one, join-cons, join-split}
+use Rattle.octets.proofs.Paste.{pasted-pasted}
+use Rattle.sections.specs.declared.cuts.Piece.{Piece}
+use Rattle.sections.specs.Body.{joined, opening}
+use Rattle.sections.specs.Cuts.{cutOf}
+use Rattle.sections.proofs.Found.{found}
+use Rattle.sections.proofs.Cutting.{More, cut-more, cut-last, more-occurs, last-clear, last-whole}
+
+-- the body of a text whose separator is CRLFCRLF is part of the text
+pub body-crlf : (t : Bytes) → bodyOf (pieces (split CRLFCRLF t)) ≡ t
+unfolding bodyOf
+body-crlf t = join-split cr (lf ∷ cr ∷ lf ∷ []) t
+
+pub joined-more : (t rest : Bytes) (r : Piece) → More LFLF t rest r → joined t ≡ take (r .at) t ++ (CRLFCRLF ++ joined rest)
+unfolding bodyOf
+joined-more t rest r m = ap bodyOf (m .pieces-are) ∙ join-cons CRLFCRLF (take (r .at) t) ((split LFLF rest) .first) ((split LFLF rest) .rest)
+
+pub joined-length : (t rest : Bytes) (r : Piece) → More LFLF t rest r → length (joined t) ≡ r .at + (4 + length (joined rest))
+joined-length t rest r m =
+    ap length (joined-more t rest r m)
+    ∙ length-append (take (r .at) t) (CRLFCRLF ++ joined rest)
+    ∙ rw (length-take-le (r .at) t (omega arith), length-append CRLFCRLF (joined rest)) refl
+
+pub joined-last : (t : Bytes) → pieces (split LFLF t) ≡ t ∷ [] → joined t ≡ t
+unfolding bodyOf
+joined-last t h = ap bodyOf h ∙ join-one CRLFCRLF t
+
+-- the first section with what is written behind it
+pub opening-more : (t : Bytes) (r : Piece) → r ≡ cutOf LFLF t → r .last ≡ false → opening t ≡ take (r .at) t ++ CRLFCRLF
+unfolding opening cutOf
+opening-more t r e h =
+    let o = more-occurs LFLF t r e h in
+    rw (e, o) (ap (λ (s : Bytes). s ++ CRLFCRLF) (found LFLF t (omega arith) o .first))
+
+pub opening-last : (t : Bytes) (r : Piece) → r ≡ cutOf LFLF t → r .last ≡ true → opening t ≡ take (r .at) t
+unfolding opening
+opening-last t r e h =
+    rw (last-clear LFLF t r e h, last-whole LFLF t r e h) (sym (take-length t))
+
+-- it holds the bytes before the cut
+pub opening-holds : (t : Bytes) (r : Piece) → r ≡ cutOf LFLF t → length (take (r .at) t) ≤ length (opening t)
+opening-holds t r e = ⊎-elim last more (bcase (r .last))
+  where
+    last : r .last ≡ true → length (take (r .at) t) ≤ length (opening t)
+    last h = rw (opening-last t r e h) (omega arith)
+
+    more : r .last ≡ false → length (take (r .at) t) ≤ length (opening t)
+    more h = rw (opening-more t r e h, length-append (take (r .at) t) CRLFCRLF) (omega arith)
+
+-- it begins the whole
+pub joined-next : (t rest : Bytes) (r : Piece) → r ≡ cutOf LFLF t → r .last ≡ false → More LFLF t rest r → joined t ≡ opening t ++ joined rest
+joined-next t rest r e h m = joined-more t rest r m ∙ rw (opening-more t r e h) (sym (append-assoc (take (r .at) t) CRLFCRLF (joined rest)))
+
+pub joined-end : (t : Bytes) (r : Piece) → r ≡ cutOf LFLF t → r .last ≡ true → joined t ≡ opening t
+joined-end t r e h =
+    joined-last t (cut-last LFLF t r e h) ∙ sym (opening-last t r e h ∙ rw (last-whole LFLF t r e h) (take-length t))
+
+pub opening-fits : (t : Bytes) → length (opening t) ≤ length (joined t)
+opening-fits t = ⊎-elim last more (bcase ((cutOf LFLF t) .last))
+  where
+    last : (cutOf LFLF t) .last ≡ true → length (opening t) ≤ length (joined t)
+    last h = rw (joined-end t (cutOf LFLF t) refl h) (omega arith)
+
+    more : (cutOf LFLF t) .last ≡ false → length (opening t) ≤ length (joined t)
+    more h =
+        let rest = drop ((cutOf LFLF t) .next) t in
+        rw (joined-next t rest (cutOf LFLF t) refl h (cut-more LFLF t (cutOf LFLF t) (omega arith) refl h), length-append (opening t) (joined rest)) (omega arith)
+
+-- a list of which n elements are passed, and x stands next
+module _ (j x y : Bytes) (n : ℕ) (next : drop n j ≡ x ++ y) where
+  pub drop-next : drop (n + length x) j ≡ y
+  drop-next = sym (drop-drop (length x) n j) ∙ rw next (drop-append-seam x y)
+
+  pub take-next : take (n + length x) j ≡ take n j ++ x
+  take-next = take-add n (length x) j ∙ rw next (ap (λ (s : Bytes). take n j ++ s) (take-append-seam x y))
+
+  pub next-fits : n ≤ length j → n + length x ≤ length j
+  next-fits h = omega (arith, sym (length-drop n j) ∙ ap length next ∙ length-append x y)
+
+  -- the first n bytes of j are written, and x behind them
+  pub pasted-part : (at : ℕ) (d : Bytes) → n ≤ length j → at ≤ length d → pasted (at + n) x (pasted at (take n j) d) ≡ pasted at (take (n + length x) j) d
+  pasted-part at d h k =
+      let e : length (take n j) ≡ n = length-take-le n j h in
+      ap (λ (i : ℕ). pasted (at + i) x (pasted at (take n j) d)) (sym e) ∙ pasted-pasted at (take n j) x d k ∙ ap (λ (s : Bytes). pasted at s d) (sym take-next)
+
+-- the last bytes of j are written
+pub pasted-end : (j x d : Bytes) (n at : ℕ) → drop n j ≡ x → n ≤ length j → at ≤ length d → pasted (at + n) x (pasted at (take n j) d) ≡ pasted at j d
+pasted-end j x d n at h l k =
+    let e : drop n j ≡ x ++ [] = h ∙ sym (append-nil x) in
+    let all : n + length x ≡ length j = omega (arith, sym (length-drop n j) ∙ ap length h) in
+    pasted-part j x [] n e at d l k ∙ rw (all, take-length j) refl

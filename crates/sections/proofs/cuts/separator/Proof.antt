@@ -1,0 +1,25 @@
+-- `separator` meets its contract: the place that `find` gives tells whether the pattern occurs.
+use mathlib.Core.Path.{sym, ap, _∙_}
+use Prim.Native.Nat.{ℕ}
+use native.Mathlib.Omega.{arith}
+use lib.ListN.{length}
+use borrow.Author.Needs.{needs}
+use lib.Dec.{ltb}
+use Rattle.format.specs.Bytes.{CRLFCRLF}
+use Rattle.sections.proofs.Found.{occurs-place}
+use Rattle.sections.proofs.cuts.separator.Statement.{statement}
+use Rattle.sections.proofs.cuts.separator.Tie as tie
+
+slice-aggregate-find : tie.Need-slice-aggregate-find
+slice-aggregate-find c = search needs
+
+find-requires : tie.Need-find-requires
+find-requires c κs = search needs
+
+returns : tie.Need-returns
+returns c =
+    let t = c .before .before .before .args .text .now in
+    ap (λ (n : ℕ). ltb n (length t)) (c .find .ensures) ∙ sym (occurs-place CRLFCRLF t (omega arith))
+
+pub separator-spec : {M : Type 1} → statement M
+separator-spec = tie.close (tie.spec slice-aggregate-find find-requires returns)

@@ -1,0 +1,4 @@
+pub mod Place
+pub mod Block
+pub mod Cuts
+pub mod Body

@@ -1,0 +1,4 @@
+pub mod Coded
+pub mod Lengths
+pub mod Blocks
+pub mod Trimming
