@@ -81,9 +81,11 @@ pub stores-six :
     → at + 6 ≤ length d
     → set (set (set (set (set (set d at a) (at + 1) b) (at + 2) c) (at + 3) e) (at + 4) f) (at + 5) g ≡ pasted at (a ∷ b ∷ c ∷ e ∷ f ∷ g ∷ []) d
 stores-six d at a b c e f g h =
-    rw (stores-three d at a b c (omega arith),
-    pasted-more at (a ∷ b ∷ c ∷ []) d e (omega arith),
-    pasted-more at (a ∷ b ∷ c ∷ e ∷ []) d f (omega arith))
+    rw (
+      stores-three d at a b c (omega arith),
+      pasted-more at (a ∷ b ∷ c ∷ []) d e (omega arith),
+      pasted-more at (a ∷ b ∷ c ∷ e ∷ []) d f (omega arith),
+    )
     (pasted-more at (a ∷ b ∷ c ∷ e ∷ f ∷ []) d g (omega arith))
 
 form-takes : (b : ℕ) (t : Bytes) → takesForm (formOf (b ∷ t)) ≤ suc (length t)

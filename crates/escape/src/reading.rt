@@ -1,7 +1,7 @@
 // A header value as it is read: the stretches between backslashes as they are, and each escape as the character that it stands for.
 
-use octets::{copy_at, find_byte};
-
+use octets::copy_at;
+use octets::find_byte;
 ghost use mathlib.Core.Path.{_≡_};
 ghost use mathlib.Core.Bool.{true};
 ghost use Prim.Native.Nat.{_+_, _≤_, _<_};

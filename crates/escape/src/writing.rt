@@ -3,7 +3,6 @@
 
 use crate::bare::bare_text;
 use octets::copy_at;
-
 ghost use mathlib.Core.Path.{_≡_};
 ghost use Prim.Native.Nat.{_+_, _*_, _^_, _≤_, _<_};
 ghost use lib.ListN.{length, drop};

@@ -42,8 +42,7 @@ loop-again c =
     let at-loop = c .before .before .before in
     let args = at-loop .before .args in
     let k = at-loop .loop .k in
-    let s = args .block .now in
-    (
+    let s = args .block .now in (
       omega arith,
       ⊎-elim (λ w. w .1 ∙ any-hit (eqb (args .c)) s k (omega arith) (eq-eqb (args .c) (getD s k 0) (sym (w .0 .taken))))
           (λ w. w .1 ∙ at-loop .loop .inv .1 ∙ any-miss (eqb (args .c)) s k (omega arith) (ne-eqb (args .c) (getD s k 0) (λ e. w .0 .left (sym e))))

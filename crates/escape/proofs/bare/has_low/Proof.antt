@@ -42,8 +42,7 @@ loop-again c =
     let at-loop = c .before .before .before in
     let args = at-loop .before .args in
     let k = at-loop .loop .k in
-    let s = args .block .now in
-    (
+    let s = args .block .now in (
       omega arith,
       ⊎-elim (λ w. w .1 ∙ any-hit isLow s k (omega arith) (lt-ltb (getD s k 0) 32 (w .0 .taken)))
           (λ w. w .1 ∙ at-loop .loop .inv .1 ∙ any-miss isLow s k (omega arith) (le-ltb (getD s k 0) 32 (w .0 .left)))
