@@ -1,0 +1,163 @@
+//! The leaves, proved in crates/octets, unicode, escape and sections, as safe functions. Each tests what the function asks for.
+
+mod raw {
+    extern "C" {
+        pub fn leaves_is_utf8(s: *const u8, n: usize) -> bool;
+        pub fn leaves_is_white(s: *const u8, n: usize) -> bool;
+        pub fn leaves_is_control(s: *const u8, n: usize) -> bool;
+        pub fn leaves_trim(out: *mut u8, m: usize, s: *const u8, n: usize) -> usize;
+        pub fn leaves_replaced_len(s: *const u8, n: usize) -> usize;
+        pub fn leaves_put_replaced(out: *mut u8, m: usize, s: *const u8, n: usize) -> usize;
+        pub fn leaves_escaped_len(s: *const u8, n: usize) -> usize;
+        pub fn leaves_escape(out: *mut u8, m: usize, s: *const u8, n: usize) -> usize;
+        pub fn leaves_reads(s: *const u8, n: usize) -> bool;
+        pub fn leaves_unescaped_len(s: *const u8, n: usize) -> usize;
+        pub fn leaves_unescape(out: *mut u8, m: usize, s: *const u8, n: usize) -> usize;
+        pub fn leaves_find(text: *const u8, n: usize, pattern: *const u8, k: usize) -> usize;
+        pub fn leaves_find_plain(text: *const u8, n: usize, pattern: *const u8, k: usize) -> usize;
+        pub fn leaves_joined_len(rest: *const u8, n: usize) -> usize;
+        pub fn leaves_join_into(out: *mut u8, m: usize, rest: *const u8, n: usize);
+        pub fn leaves_copy_at(dst: *mut u8, m: usize, at: usize, src: *const u8, n: usize);
+        pub fn leaves_shift(s: *mut u8, n: usize, from: usize, to: usize, k: usize);
+        pub fn leaves_zero_fill(s: *mut u8, n: usize);
+        pub fn leaves_before(a: *const u8, n: usize, b: *const u8, m: usize) -> bool;
+        pub fn leaves_same(a: *const u8, n: usize, b: *const u8, m: usize) -> bool;
+        pub fn leaves_same_letters(a: *const u8, n: usize, b: *const u8, m: usize) -> bool;
+        pub fn leaves_says(text: *const u8, n: usize, pattern: *const u8, k: usize) -> bool;
+        pub fn leaves_find_byte(s: *const u8, n: usize, c: u8) -> usize;
+    }
+}
+
+// SAFETY of every call below: a slice is passed as its pointer and its length, and what the function asks for is tested.
+
+pub fn is_utf8(s: &[u8]) -> bool {
+    unsafe { raw::leaves_is_utf8(s.as_ptr(), s.len()) }
+}
+
+pub fn is_white(s: &[u8]) -> bool {
+    unsafe { raw::leaves_is_white(s.as_ptr(), s.len()) }
+}
+
+pub fn is_control(s: &[u8]) -> bool {
+    unsafe { raw::leaves_is_control(s.as_ptr(), s.len()) }
+}
+
+/// Writes the trimmed text to the start of `out` and gives its length.
+pub fn trim(out: &mut [u8], s: &[u8]) -> usize {
+    assert!(s.len() <= out.len());
+    unsafe { raw::leaves_trim(out.as_mut_ptr(), out.len(), s.as_ptr(), s.len()) }
+}
+
+pub fn replaced_len(s: &[u8]) -> usize {
+    assert!(s.len() < 1 << 60);
+    unsafe { raw::leaves_replaced_len(s.as_ptr(), s.len()) }
+}
+
+pub fn put_replaced(out: &mut [u8], s: &[u8]) -> usize {
+    assert!(replaced_len(s) <= out.len());
+    unsafe { raw::leaves_put_replaced(out.as_mut_ptr(), out.len(), s.as_ptr(), s.len()) }
+}
+
+/// `put_replaced` where the caller knows that there is room for three bytes for each.
+pub fn put_replaced_into(out: &mut [u8], s: &[u8]) -> usize {
+    assert!(s.len() < 1 << 60 && 3 * s.len() <= out.len());
+    unsafe { raw::leaves_put_replaced(out.as_mut_ptr(), out.len(), s.as_ptr(), s.len()) }
+}
+
+pub fn escaped_len(s: &[u8]) -> usize {
+    assert!(s.len() < 1 << 60);
+    unsafe { raw::leaves_escaped_len(s.as_ptr(), s.len()) }
+}
+
+pub fn escape(out: &mut [u8], s: &[u8]) -> usize {
+    assert!(s.len() < 1 << 60 && 6 * s.len() <= out.len());
+    unsafe { raw::leaves_escape(out.as_mut_ptr(), out.len(), s.as_ptr(), s.len()) }
+}
+
+pub fn unescaped_len(s: &[u8]) -> Option<usize> {
+    let reads = unsafe { raw::leaves_reads(s.as_ptr(), s.len()) };
+    reads.then(|| unsafe { raw::leaves_unescaped_len(s.as_ptr(), s.len()) })
+}
+
+/// Writes what `s` reads as to the start of `out` and gives its length, or nothing where `s` has a bad escape.
+pub fn unescape(out: &mut [u8], s: &[u8]) -> Option<usize> {
+    let len = unescaped_len(s)?;
+    assert!(len <= out.len());
+    Some(unsafe { raw::leaves_unescape(out.as_mut_ptr(), out.len(), s.as_ptr(), s.len()) })
+}
+
+pub fn find(text: &[u8], pattern: &[u8]) -> usize {
+    assert!(!pattern.is_empty());
+    unsafe { raw::leaves_find(text.as_ptr(), text.len(), pattern.as_ptr(), pattern.len()) }
+}
+
+pub fn find_plain(text: &[u8], pattern: &[u8]) -> usize {
+    assert!(!pattern.is_empty());
+    unsafe { raw::leaves_find_plain(text.as_ptr(), text.len(), pattern.as_ptr(), pattern.len()) }
+}
+
+/// The length of the pieces of `rest` between LFLF, joined by CRLFCRLF.
+pub fn joined_len(rest: &[u8]) -> usize {
+    assert!(rest.len() <= 20_971_520);
+    unsafe { raw::leaves_joined_len(rest.as_ptr(), rest.len()) }
+}
+
+pub fn join_into(out: &mut [u8], rest: &[u8]) {
+    assert!(joined_len(rest) <= out.len());
+    unsafe { raw::leaves_join_into(out.as_mut_ptr(), out.len(), rest.as_ptr(), rest.len()) }
+}
+
+pub fn copy_at(dst: &mut [u8], at: usize, src: &[u8]) {
+    assert!(at <= dst.len() && src.len() <= dst.len() - at);
+    unsafe { raw::leaves_copy_at(dst.as_mut_ptr(), dst.len(), at, src.as_ptr(), src.len()) }
+}
+
+pub fn shift(s: &mut [u8], from: usize, to: usize, n: usize) {
+    assert!(n <= s.len() && from <= s.len() - n && to <= s.len() - n);
+    unsafe { raw::leaves_shift(s.as_mut_ptr(), s.len(), from, to, n) }
+}
+
+pub fn zero_fill(s: &mut [u8]) {
+    unsafe { raw::leaves_zero_fill(s.as_mut_ptr(), s.len()) }
+}
+
+pub fn before(a: &[u8], b: &[u8]) -> bool {
+    unsafe { raw::leaves_before(a.as_ptr(), a.len(), b.as_ptr(), b.len()) }
+}
+
+pub fn same(a: &[u8], b: &[u8]) -> bool {
+    unsafe { raw::leaves_same(a.as_ptr(), a.len(), b.as_ptr(), b.len()) }
+}
+
+pub fn same_letters(a: &[u8], b: &[u8]) -> bool {
+    unsafe { raw::leaves_same_letters(a.as_ptr(), a.len(), b.as_ptr(), b.len()) }
+}
+
+pub fn says(text: &[u8], pattern: &[u8]) -> bool {
+    assert!(!pattern.is_empty());
+    unsafe { raw::leaves_says(text.as_ptr(), text.len(), pattern.as_ptr(), pattern.len()) }
+}
+
+pub fn find_byte(s: &[u8], c: u8) -> usize {
+    unsafe { raw::leaves_find_byte(s.as_ptr(), s.len(), c) }
+}
+
+/// Numbers that look random and are the same in every run (xorshift).
+pub struct Random(u64);
+
+impl Random {
+    pub fn new(seed: u64) -> Self {
+        Random(seed.max(1))
+    }
+
+    pub fn next(&mut self) -> u64 {
+        self.0 ^= self.0 << 13;
+        self.0 ^= self.0 >> 7;
+        self.0 ^= self.0 << 17;
+        self.0
+    }
+
+    pub fn below(&mut self, n: usize) -> usize {
+        (self.next() >> 11) as usize % n
+    }
+}
