@@ -1,22 +1,20 @@
 -- A text whose bytes are all bare is written as it is; and how a text is tested for it, by kinds of bytes and in parts that may overlap.
-use Prim.Native.Nat.{ℕ, suc, _+_, _-_, _≤_, _<_}
+use Prim.Native.Nat.{ℕ, _+_, _≤_, _<_}
 use mathlib.Core.Path.{_≡_, refl, sym, ap, _∙_}
-use mathlib.Core.Bool.{Bool, true, false, not, _&&_, _||_, or-true, or-false, and-false}
-use mathlib.Core.List.{List, [], _∷_, _++_}
-use native.Mathlib.Numerals.{add-one}
-use native.Mathlib.Omega.{arith}
+use mathlib.Core.Bool.{Bool, true, false, not, _&&_, _||_, or-true, and-false}
+use mathlib.Core.List.{[], _∷_, _++_}
 use lib.Dec.{leb, ltb, eqb}
 use lib.ListN.{length, take, drop, getD, take-append-drop}
-use lib.Seq.{take-suc, take-add, take-take, take-all, drop-cons}
+use lib.Seq.{take-add, take-take, drop-cons}
 use borrow.Author.Tests.{eqb-false, ltb-true, ltb-false, le-leb, lt-leb, ne-eqb, not-true}
-use Rattle.format.specs.Bytes.{Bytes, if_then_else_, all, any, has}
-use Rattle.format.specs.Characters.{isAsciiControl}
-use Rattle.format.specs.Escaping.{shortForm, escape}
+use Rattle.format.specs.Bytes.{Bytes, all, any, has}
+use Rattle.format.specs.Escaping.{escape}
 use Rattle.format.proofs.Lists.{and-left, and-right, or-false-left, or-false-right, all-append}
-use Rattle.escape.specs.Forms.{isLow, isBare, byteForm, formOf, takesForm, writtenForm}
+use Rattle.escape.specs.Forms.{isLow, isBare, formOf, takesForm, writtenForm}
 use Rattle.escape.specs.declared.writing.Form.{Form}
 use Rattle.escape.specs.declared.writing.Form.the-variants.{Raw}
 use Rattle.escape.proofs.Units.{escape-nil, escape-unit, form-byte}
+use Rattle.escape.proofs.Forms.{byte-plain}
 
 -- What is known of a bare byte.
 record Bare (b : ℕ) : Type 0 where
@@ -41,26 +39,12 @@ bare b h =
       no-lead = or-false-right (eqb 0x7F b) (eqb 0xC2 b) r;
     }
 
-turned : (a b : ℕ) → eqb a b ≡ false → eqb b a ≡ false
-turned a b h = ne-eqb b a (λ e. eqb-false a b h (sym e))
-
 bare-form : (b : ℕ) (t : Bytes) → isBare b ≡ true → formOf (b ∷ t) ≡ Raw b
-unfolding byteForm shortForm isAsciiControl
 bare-form b t h =
     let k = bare b h in
-    let l : 32 ≤ b = ltb-false b 32 (k .low) in
-    form-byte b t (turned 0xC2 b (k .no-lead))
-    ∙ rw (
-      turned 92 b (k .no-backslash),
-      turned 34 b (k .no-quote),
-      ne-eqb b 8 (λ e. omega arith),
-      ne-eqb b 9 (λ e. omega arith),
-      ne-eqb b 10 (λ e. omega arith),
-      ne-eqb b 13 (λ e. omega arith),
-      k .low,
-      turned 0x7F b (k .no-delete),
-    )
-    refl
+    form-byte b t (ne-eqb b 0xC2 (λ e. eqb-false 0xC2 b (k .no-lead) (sym e)))
+    ∙ byte-plain b (ltb-false b 32 (k .low)) (λ e. eqb-false 34 b (k .no-quote) (sym e)) (λ e. eqb-false 92 b (k .no-backslash) (sym e))
+    (λ e. eqb-false 0x7F b (k .no-delete) (sym e))
 
 -- a text of bare bytes is written as it is
 pub bare-escape : (v : Bytes) → all isBare v ≡ true → escape v ≡ v
@@ -102,34 +86,6 @@ bare-kinds s =
     (any-or (eqb 34) (λ b. eqb 92 b || (eqb 0x7F b || eqb 0xC2 b)) s
     ∙ ap (λ (x : Bool). has 34 s || x)
     (any-or (eqb 92) (λ b. eqb 0x7F b || eqb 0xC2 b) s ∙ ap (λ (x : Bool). has 92 s || x) (any-or (eqb 0x7F) (eqb 0xC2) s))))
-
--- one more byte is looked at
-module _ (p : ℕ → Bool) (s : Bytes) where
-  pub any-start : false ≡ any p (take 0 s)
-  unfolding any
-  any-start = refl
-
-  any-append : (a b : Bytes) → any p (a ++ b) ≡ (any p a || any p b)
-  unfolding any
-  any-append [] b = refl
-  any-append (x ∷ a) b = rw (any-append a b) (or-assoc' (p x) (any p a) (any p b))
-    where
-      or-assoc' : (u v w : Bool) → (u || (v || w)) ≡ ((u || v) || w)
-      or-assoc' true v w = refl
-      or-assoc' false v w = refl
-
-  any-more : (k : ℕ) → k < length s → any p (take (k + 1) s) ≡ (any p (take k s) || p (getD s k 0))
-  unfolding any
-  any-more k h =
-      ap (any p) (ap (λ (n : ℕ). take n s) (add-one k) ∙ take-suc s k 0 h)
-      ∙ any-append (take k s) (getD s k 0 ∷ [])
-      ∙ ap (λ (x : Bool). any p (take k s) || x) (or-false (p (getD s k 0)))
-
-  pub any-hit : (k : ℕ) → k < length s → p (getD s k 0) ≡ true → true ≡ any p (take (k + 1) s)
-  any-hit k h e = sym (any-more k h ∙ ap (λ (x : Bool). any p (take k s) || x) e ∙ or-true (any p (take k s)))
-
-  pub any-miss : (k : ℕ) → k < length s → p (getD s k 0) ≡ false → any p (take k s) ≡ any p (take (k + 1) s)
-  any-miss k h e = sym (any-more k h ∙ ap (λ (x : Bool). any p (take k s) || x) e ∙ or-false (any p (take k s)))
 
 -- a text in parts
 module _ (p : ℕ → Bool) (s : Bytes) where

@@ -1,17 +1,17 @@
 -- The number behind `\u`: the laws of its digits, with 16 and 65536 for what is no digit and no number.
 use Prim.Native.Nat.{ℕ, _+_, _-_, _*_, _≤_, _<_}
-use mathlib.Core.Path.{_≡_, refl, sym, ap, _∙_}
-use mathlib.Core.Bool.{Bool, true, false}
+use mathlib.Core.Path.{_≡_, refl, sym, _∙_}
+use mathlib.Core.Bool.{false}
 use mathlib.Core.Logic.{⊎-elim}
 use mathlib.Core.Option.{Option, none, some}
 use native.Mathlib.Omega.{arith}
 use lib.Dec.{ltb, eqb}
 use borrow.Author.Tests.{ltb-true, ltb-false, ne-eqb}
-use Rattle.format.specs.Bytes.{if_then_else_, plus}
-use Rattle.format.specs.Characters.{Range, _to_, within, isScalar, encoding}
+use Rattle.format.specs.Bytes.{plus}
+use Rattle.format.specs.Characters.{_to_, within, isScalar, encoding}
 use Rattle.format.specs.Escaping.{digitValue, shifted, fourDigits, scalarEscape}
 use Rattle.format.proofs.Lists.{bcase}
-use Rattle.format.proofs.Characters.Table.{within-low, within-high, within-intro, within-below, within-above}
+use Rattle.format.proofs.Characters.Table.{within-high, within-intro, within-below, within-above}
 use Rattle.format.proofs.Characters.Shapes.{scalar-low, scalar-high}
 use Rattle.format.proofs.Escaping.Unescape.{branch, nothing}
 use Rattle.escape.specs.Reads.{orElse, firstValue, scalarOf}

@@ -1,26 +1,22 @@
 -- The laws that the functions of src/reading.rt rest on: the escape behind a backslash, the bytes of a code point, and one turn of their
 -- loops, in which a stretch without a backslash is read as it is and then an escape.
-use Prim.Native.Nat.{ℕ, suc, _+_, _-_, _*_, _/_, _%_, _≤_, _<_}
+use Prim.Native.Nat.{ℕ, suc, _+_, _≤_, _<_}
 use mathlib.Core.Path.{_≡_, refl, sym, ap, _∙_}
 use mathlib.Core.Bool.{Bool, true, false, false≢true}
-use mathlib.Core.List.{List, [], _∷_, _++_, append-nil}
+use mathlib.Core.List.{[], _∷_, _++_, append-nil}
 use mathlib.Core.Option.{Option, none, some}
 use native.Mathlib.Numerals.{add-one}
 use native.Mathlib.Omega.{arith}
-use lib.Dec.{ltb, eqb}
-use lib.ListN.{length, take, drop, getD, length-append, length-drop, length-take, take-append-drop, drop-of-length-le}
+use lib.Dec.{eqb}
+use lib.ListN.{length, take, drop, getD, length-append, length-drop, take-append-drop, drop-of-length-le}
 use lib.Seq.{drop-cons, drop-drop, length-take-le}
 use borrow.Author.Tests.{eqb-true, eqb-false, eq-eqb, ne-eqb}
 use Rattle.format.specs.Bytes.{Bytes, if_then_else_, all, upTo, pasted}
-use Rattle.format.specs.Characters.{encoding}
 use Rattle.format.specs.Escaping.{fourDigits, Escape, scalarEscape, longEscape, shortEscape, escapeAt, takesOf, inFront, escaped, unescapeFrom, unescape}
-use Rattle.format.proofs.Lists.{bcase}
-use Rattle.format.proofs.Escaping.Unescape.{unescape-skip, behind-some, behind-nil, behind-behind, plain, plain-read, sound}
+use Rattle.format.proofs.Escaping.Unescape.{unescape-skip, behind-behind, plain, plain-read, sound}
 use Rattle.octets.proofs.Paste.{pasted-pasted}
 use Rattle.octets.proofs.Find.{found-within, found-upTo}
-use Rattle.escape.specs.Reads.{measured, valueOf, escapeOf}
-use Rattle.escape.specs.declared.reading.Read.{Read}
-use Rattle.escape.specs.declared.reading.Read.the-variants.{Code, Nothing}
+use Rattle.escape.specs.Reads.{measured, valueOf}
 
 -- fewer than four bytes are no number
 pub long-few : (s : Bytes) → length s < 4 → longEscape s ≡ none

@@ -1,30 +1,54 @@
 -- The laws that the functions of src/writing.rt rest on: the form of the bytes at a place, the bytes of a form, and one turn of their loops.
-use Prim.Native.Nat.{ℕ, suc, _+_, _*_, _/_, _%_, _≤_, _<_}
+use Prim.Native.Nat.{ℕ, suc, _+_, _/_, _%_, _≤_, _<_}
 use mathlib.Core.Path.{_≡_, refl, sym, ap, _∙_}
 use mathlib.Core.Bool.{Bool, true, false, _&&_}
-use mathlib.Core.Logic.{⊎-elim}
-use mathlib.Core.List.{List, [], _∷_, _++_}
-use mathlib.Core.Option.{none}
+use mathlib.Core.List.{[], _∷_, _++_}
 use native.Mathlib.Numerals.{add-one}
 use native.Mathlib.Omega.{arith}
 use lib.Dec.{eqb}
-use lib.ListN.{length, take, drop, getD, set, length-append, length-drop, drop-of-length-le}
+use lib.ListN.{length, drop, getD, set, length-append, length-drop, drop-of-length-le}
 use lib.Seq.{drop-cons, drop-drop}
-use borrow.Author.Tests.{ne-eqb}
+use borrow.Author.Tests.{ne-eqb, lt-ltb, le-ltb}
 use Rattle.format.specs.Bytes.{Bytes, if_then_else_, pasted}
-use Rattle.format.specs.Characters.{_to_, within}
+use Rattle.format.specs.Characters.{_to_, within, isAsciiControl}
 use Rattle.format.specs.Escaping.{digit, shortForm, unicodeEscape, escape}
 use Rattle.format.proofs.Characters.Table.{within-intro}
-use Rattle.octets.proofs.Paste.{pasted-nil, pasted-one, pasted-more, pasted-pasted}
+use Rattle.octets.proofs.Paste.{pasted-one, pasted-more, pasted-pasted}
 use Rattle.escape.specs.Forms.{byteForm, formOf, takesForm, widthForm, writtenForm}
 use Rattle.escape.specs.declared.writing.Form.{Form}
 use Rattle.escape.specs.declared.writing.Form.the-variants.{Raw, Short, Long, Upper}
 use Rattle.escape.proofs.Units.{escape-nil, escape-unit, byte-takes, form-byte}
 
--- any other byte has no short form
-pub short-none : (b : ℕ) → (b ≡ 92 → ⊥) → (b ≡ 34 → ⊥) → (b ≡ 8 → ⊥) → (b ≡ 9 → ⊥) → (b ≡ 10 → ⊥) → (b ≡ 13 → ⊥) → shortForm b ≡ none
-unfolding shortForm
-short-none b p q r s t u = rw (ne-eqb b 92 p, ne-eqb b 34 q, ne-eqb b 8 r, ne-eqb b 9 s, ne-eqb b 10 t, ne-eqb b 13 u) refl
+-- a byte from 32 on that is no quote, no backslash and no delete is written as it is
+pub byte-plain : (b : ℕ) → 32 ≤ b → (b ≡ 34 → ⊥) → (b ≡ 92 → ⊥) → (b ≡ 0x7F → ⊥) → byteForm b ≡ Raw b
+unfolding byteForm shortForm isAsciiControl
+byte-plain b h p q r =
+    rw (
+      ne-eqb b 92 q,
+      ne-eqb b 34 p,
+      ne-eqb b 8 (λ e. omega arith),
+      ne-eqb b 9 (λ e. omega arith),
+      ne-eqb b 10 (λ e. omega arith),
+      ne-eqb b 13 (λ e. omega arith),
+      le-ltb b 32 h,
+      ne-eqb b 0x7F r,
+    )
+    refl
+
+-- and one below 32 that has no short form in hexadecimal digits
+pub byte-low : (b : ℕ) → b < 32 → (b ≡ 8 → ⊥) → (b ≡ 9 → ⊥) → (b ≡ 10 → ⊥) → (b ≡ 13 → ⊥) → byteForm b ≡ Long b
+unfolding byteForm shortForm isAsciiControl
+byte-low b h p q r s =
+    rw (
+      ne-eqb b 92 (λ e. omega arith),
+      ne-eqb b 34 (λ e. omega arith),
+      ne-eqb b 8 p,
+      ne-eqb b 9 q,
+      ne-eqb b 10 r,
+      ne-eqb b 13 s,
+      lt-ltb b 32 h,
+    )
+    refl
 
 -- the form at a place
 module _ (v : Bytes) (i : ℕ) (h : i < length v) where

@@ -1,5 +1,6 @@
 pub mod Units
-pub mod BareBytes
 pub mod Forms
+pub mod Looking
+pub mod BareBytes
 pub mod Digits
 pub mod Escapes

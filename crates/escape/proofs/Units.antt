@@ -8,19 +8,18 @@ use mathlib.Core.List.{List, [], _∷_, _++_}
 use mathlib.Core.Option.{Option, none, some}
 use native.Mathlib.Omega.{arith}
 use lib.Dec.{leb, ltb, eqb}
-use lib.ListN.{length, take, drop, getD, take-append-drop}
+use lib.ListN.{take, drop, getD, take-append-drop}
 use lib.Seq.{take-nil}
-use borrow.Author.Tests.{eqb-true, eqb-false, leb-true, ltb-true, ltb-false, ne-eqb, eq-eqb, le-ltb, lt-leb}
-use Rattle.format.specs.Bytes.{Bytes, if_then_else_, all, texts, backslash}
+use borrow.Author.Tests.{eqb-true, eqb-false, leb-true, ltb-true, ltb-false, ne-eqb, eq-eqb, le-ltb}
+use Rattle.format.specs.Bytes.{Bytes, if_then_else_, all, texts}
 use Rattle.format.specs.Characters.{Range, _to_, within, Row, table-3-7, trailOf, matched, matchedSome, trailing, fits, wellFormed, codePoint, isControl, isControlCode, isAsciiControl}
-use Rattle.format.specs.Escaping.{shortForm, longForm, shortOr, unicodeEscape, escapeChar, escape}
+use Rattle.format.specs.Escaping.{shortForm, shortOr, unicodeEscape, escapeChar, escape}
 use Rattle.format.proofs.Lists.{bcase, clash, and-left, and-right, and-intro}
 use Rattle.format.proofs.Characters.Table.{within-low, within-high, within-intro, within-below, picks, whole-row}
 use Rattle.format.proofs.Characters.Chars.{chars-nil, chars-cons, chars-whole, chars-ascii, ascii-whole}
-use Rattle.format.proofs.Characters.Shapes.{Between, Shape, one, two, three, four, shape, value-two}
-use Rattle.escape.specs.Forms.{longByte, shortByte, byteForm, formOf, takesForm, writtenForm}
-use Rattle.escape.specs.declared.writing.Form.{Form}
-use Rattle.escape.specs.declared.writing.Form.the-variants.{Raw, Short, Long, Upper}
+use Rattle.format.proofs.Characters.Shapes.{Shape, one, two, three, four, shape, value-two}
+use Rattle.escape.specs.Forms.{shortByte, byteForm, formOf, takesForm, writtenForm}
+use Rattle.escape.specs.declared.writing.Form.the-variants.{Raw, Long}
 
 -- a trailing byte
 abbrev isTrail : ℕ → Bool

@@ -1,43 +1,12 @@
 // Whether a text is written as it is: no byte of it is an ASCII control, a quote, a backslash, or the lead byte C2 of the
-// two-byte controls. Blocks of 16 bytes, each tested for one kind of byte at a time with no early exit, so that a test of
-// a block is a few vector instructions.
+// two-byte controls.
 
+use crate::blocks::has_byte;
+use crate::blocks::has_low;
 ghost use mathlib.Core.Path.{_≡_};
 ghost use lib.ListN.{length};
-ghost use Rattle.format.specs.Bytes.{all, any, has};
-ghost use Rattle.escape.specs.Forms.{isLow, isBare};
-
-// A byte below 32 stands in the block.
-fn has_low(block: &[u8]) -> bool
-    requires { ⌜ length (now block) ≡ 16 ⌝ }
-    ensures { λ r. ⌜ r ≡ any isLow (now (block .entry)) ⌝ }
-{
-    let mut hit = false;
-    let mut k = 0;
-    while k < 16 {
-        if block[k] < 32 {
-            hit = true;
-        }
-        k += 1;
-    }
-    hit
-}
-
-// The byte c stands in the block.
-fn has_byte(block: &[u8], c: u8) -> bool
-    requires { ⌜ length (now block) ≡ 16 ⌝ }
-    ensures { λ r. ⌜ r ≡ has c (now (block .entry)) ⌝ }
-{
-    let mut hit = false;
-    let mut k = 0;
-    while k < 16 {
-        if block[k] == c {
-            hit = true;
-        }
-        k += 1;
-    }
-    hit
-}
+ghost use Rattle.format.specs.Bytes.{all};
+ghost use Rattle.escape.specs.Forms.{isBare};
 
 // Every byte of the block is written as it is.
 fn bare_block(block: &[u8]) -> bool

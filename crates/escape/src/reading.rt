@@ -1,7 +1,7 @@
 // A header value as it is read: the stretches between backslashes as they are, and each escape as the character that it stands for.
 
+use crate::blocks::find_in_blocks;
 use octets::copy_at;
-use octets::find_byte;
 ghost use mathlib.Core.Path.{_≡_};
 ghost use mathlib.Core.Bool.{true};
 ghost use Prim.Native.Nat.{_+_, _≤_, _<_};
@@ -169,7 +169,7 @@ pub fn unescaped_len(s: &[u8]) -> Unescaped
     let mut n = 0;
     let mut i = 0;
     loop {
-        let k = find_byte(&s[i..], 92);
+        let k = find_in_blocks(&s[i..], 92);
         n += k;
         let end = i + k;
         if s.len() <= end {
@@ -198,7 +198,7 @@ pub fn unescape_header_value(out: &mut [u8], at: usize, s: &[u8]) -> usize
     let mut to = at;
     let mut i = 0;
     loop {
-        let k = find_byte(&s[i..], 92);
+        let k = find_in_blocks(&s[i..], 92);
         let end = i + k;
         copy_at(out, to, &s[i..end]);
         to += k;

@@ -19,25 +19,43 @@ pub enum Form {
     Upper(u8),
 }
 
-// A byte by itself.
-fn byte_form(b: u8) -> Form
+// A byte below 32.
+fn low_form(b: u8) -> Form
+    requires { ⌜ b < 32 ⌝ }
     ensures { λ r. ⌜ r ≡ byteForm b ⌝ }
 {
     match b {
-        92 => Form::Short(92),
-        34 => Form::Short(34),
         8 => Form::Short(98),
         9 => Form::Short(116),
         10 => Form::Short(110),
         13 => Form::Short(114),
-        127 => Form::Long(127),
-        _ => {
-            if b < 32 {
-                return Form::Long(b);
-            }
-            Form::Raw(b)
-        }
+        _ => Form::Long(b),
     }
+}
+
+// A byte by itself: the letters first, since most bytes are letters.
+fn byte_form(b: u8) -> Form
+    ensures { λ r. ⌜ r ≡ byteForm b ⌝ }
+{
+    if 92 < b {
+        if b == 127 {
+            return Form::Long(127);
+        }
+        return Form::Raw(b);
+    }
+    if b == 92 {
+        return Form::Short(92);
+    }
+    if 34 < b {
+        return Form::Raw(b);
+    }
+    if b == 34 {
+        return Form::Short(34);
+    }
+    if 31 < b {
+        return Form::Raw(b);
+    }
+    low_form(b)
 }
 
 // The bytes from i on.

@@ -345,8 +345,10 @@ module _ (s : Bytes) (from n : ℕ) (fit : from + 67 ≤ length s) (e : n ≡ 67
       subst (λ (r : ℕ). Passed s (from + 3) r) e
       (block-passed s from j (omega arith) (omega arith) h (settled-at s j z (rw a at y) (rw b at x)) sound-in)
 
--- a block of ASCII bytes is passed over
-pub ascii-passed : (s : Bytes) (at n m : ℕ) → at + 64 ≤ length s → n ≡ 64 → m < 0x80 → all (λ b. leb b m) (take n (drop at s)) ≡ true → Passed s at (at + 64)
-ascii-passed s at n m h e l a =
-    subst (λ (k : ℕ). Passed s at (at + k)) e
+-- ASCII bytes are passed over
+pub ascii-passed : (s : Bytes) (at stop m : ℕ) → at ≤ stop → stop ≤ length s → m < 0x80 → all (λ b. leb b m) (take (stop - at) (drop at s)) ≡ true → Passed s at stop
+ascii-passed s at stop m h f l a =
+    let n = stop - at in
+    let e : at + n ≡ stop = omega arith in
+    subst (λ (r : ℕ). Passed s at r) e
     (passed s at n (omega arith) (utf8-ascii-text (take n (drop at s)) (all-map (λ b. leb b m) (λ b. ltb b 128) (λ b p. lt-ltb b 128 (omega (arith, leb-true b m p))) (take n (drop at s)) a)))

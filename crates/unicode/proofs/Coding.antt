@@ -16,7 +16,7 @@ use borrow.Author.Tests.{leb-true, leb-false, lt-leb, ltb-true, eq-eqb, ne-eqb}
 use Rattle.format.specs.Bytes.{Bytes, if_then_else_, all}
 use Rattle.format.specs.Characters.{Range, _to_, within, Row, table-3-7, trailIn, trailOf, fits, matched, wellFormed}
 use Rattle.format.proofs.Lists.{bcase, and-left, and-right, all-head, all-tail}
-use Rattle.format.proofs.Characters.Table.{noRow, rowOf, within-below, within-intro}
+use Rattle.format.proofs.Characters.Table.{trail-ascii, noRow, rowOf, within-below, within-intro}
 use Rattle.unicode.specs.Coded.{padded, coded, codedAll, codedRows, matchedEnds, trailAt}
 use Rattle.unicode.specs.Lengths.{subpartLen, charLen}
 
@@ -252,3 +252,8 @@ module _ (s : Bytes) (at i : ℕ) (h : at < length s) (e : trailOf (getD s at 0)
 pub past-end : (s : Bytes) (at : ℕ) → length s ≤ at → (0 ≡ subpartLen (drop at s)) × (0 ≡ charLen (drop at s))
 unfolding subpartLen charLen wellFormed
 past-end s at h = (rw (drop-of-length-le s h) refl, rw (drop-of-length-le s h) refl)
+
+-- a byte below 128 is a character of its own
+pub char-ascii : (s : Bytes) (at : ℕ) → at < length s → getD s at 0 < 0x80 → 1 ≡ charLen (drop at s)
+unfolding fits matched
+char-ascii s at h l = rw (drop-cons s at 0 h, char-some (getD s at 0) (drop (suc at) s) [] (trail-ascii (getD s at 0) l)) refl

@@ -90,7 +90,11 @@ pub fn char_len_in(rows: &[[u8; 8]; 9], s: &[u8], at: usize) -> usize
     if s.len() <= at {
         return 0;
     }
-    let i = row_of(rows, s[at]);
+    let b = s[at];
+    if b < 0x80 {
+        return 1;
+    }
+    let i = row_of(rows, b);
     if 9 <= i {
         return 0;
     }

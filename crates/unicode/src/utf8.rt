@@ -14,13 +14,12 @@ ghost use Rattle.unicode.specs.Blocks.{Trailing, Owed, Sound, SoundAt, S
 use crate::table::ROWS;
 use crate::table::char_len_in;
 
-// The largest byte of a block, without an early exit, so that the bytes are compared many at a time.
+// The largest byte of a part, without an early exit, so that the bytes are compared many at a time.
 fn largest(part: &[u8]) -> u8
-    requires { ⌜ length (now part) ≡ 64 ⌝ }
     ensures { λ r. ⌜ all (λ b. leb b r) (now (part .entry)) ≡ true ⌝ }
 {
     let mut top = 0u8;
-    for k in 0..64 {
+    for k in 0..part.len() {
         let b = part[k];
         if top < b {
             top = b;
@@ -208,10 +207,22 @@ fn past_chars(rows: &[[u8; 8]; 9], s: &[u8], from: usize, stop: usize) -> usize
     at
 }
 
+// The same where all up to `stop` may be ASCII.
+fn past_part(rows: &[[u8; 8]; 9], s: &[u8], from: usize, stop: usize) -> usize
+    requires { ⌜ (now rows ≡ codedRows) × (from ≤ stop) × (stop ≤ length (now s)) ⌝ }
+    ensures { λ r. ⌜ Passed (now (s .entry)) from r × (r < stop → utf8End (now (s .entry)) r ≡ r) ⌝ }
+{
+    let part = &s[from..stop];
+    if largest(part) < 0x80 {
+        return stop;
+    }
+    past_chars(rows, s, from, stop)
+}
+
 // The end of the block of 64 bytes that starts at a place; the text's end where it is nearer.
 fn block_end(s: &[u8], at: usize) -> usize
     requires { ⌜ at ≤ length (now s) ⌝ }
-    ensures { λ r. ⌜ (r ≤ length (now (s .entry))) × (at < length (now (s .entry)) → at < r) ⌝ }
+    ensures { λ r. ⌜ (at ≤ r) × (r ≤ length (now (s .entry))) × (at < length (now (s .entry)) → at < r) ⌝ }
 {
     if s.len() - at < 64 {
         return s.len();
@@ -228,7 +239,7 @@ pub fn utf8_end(s: &[u8], from: usize) -> usize
     while at < s.len() {
         let run = past_blocks(s, at);
         let stop = block_end(s, run);
-        let end = past_chars(&rows, s, run, stop);
+        let end = past_part(&rows, s, run, stop);
         if end < stop {
             return end;
         }

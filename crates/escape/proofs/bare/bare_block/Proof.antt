@@ -1,22 +1,12 @@
-use mathlib.Core.Path.{_≡_, refl, sym, ap, _∙_}
-use mathlib.Core.Bool.{Bool, true, false}
-use mathlib.Core.List.{List, [], _∷_, _++_}
-use mathlib.Core.Logic.{⊎-elim}
-use Prim.Native.Nat.{ℕ, zero, suc, _+_, _-_, _*_, _≤_, _<_}
-use native.Mathlib.Nat.{add-zero}
-use native.Mathlib.Numerals.{add-one}
-use native.Mathlib.Omega.{arith}
-use lib.ListN.{length, take, drop, getD, set, length-set, length-take, length-drop, length-append}
+-- `escape::bare::bare_block` meets its contract. A text is bare where none of the five kinds of bytes stands in it. Assumes nothing.
+use mathlib.Core.Path.{_≡_, refl, sym, _∙_}
+use mathlib.Core.Bool.{true, false}
 use borrow.Author.Needs.{needs}
-use Rattle.format.specs.Bytes.{all, any, has}
-use Rattle.escape.specs.Forms.{isLow, isBare}
+use Rattle.format.specs.Bytes.{any, has}
+use Rattle.escape.specs.Forms.{isLow}
 use Rattle.escape.proofs.BareBytes.{bare-kinds}
 use Rattle.escape.proofs.bare.bare_block.Statement.{statement}
 use Rattle.escape.proofs.bare.bare_block.Tie as tie
-use Rattle.escape.proofs.bare.bare_block.Reads as reads
-use Rattle.escape.proofs.bare.bare_block.Lts as lts
-use Rattle.escape.proofs.bare.has_byte.Reads as has-byte-reads
-use Rattle.escape.proofs.bare.has_low.Reads as has-low-reads
 
 has-low-requires : tie.Need-has-low-requires
 has-low-requires c κs = search needs

@@ -1,19 +1,9 @@
-use mathlib.Core.Path.{_≡_, refl, sym, ap, _∙_}
-use mathlib.Core.Bool.{Bool, true, false}
-use mathlib.Core.List.{List, [], _∷_, _++_}
-use mathlib.Core.Logic.{⊎-elim}
-use Prim.Native.Nat.{ℕ, zero, suc, _+_, _-_, _*_, _≤_, _<_}
-use native.Mathlib.Nat.{add-zero}
-use native.Mathlib.Numerals.{add-one}
-use native.Mathlib.Omega.{arith}
-use lib.ListN.{length, take, drop, getD, set, length-set, length-take, length-drop, length-append}
-use borrow.Author.Needs.{needs}
+-- `escape::bare::bare_byte` meets its contract. Each byte by its arm. Assumes nothing.
+use mathlib.Core.Path.{refl}
 use Rattle.escape.specs.Forms.{isBare}
 use Rattle.escape.proofs.BareBytes.{bare-rest}
 use Rattle.escape.proofs.bare.bare_byte.Statement.{statement}
 use Rattle.escape.proofs.bare.bare_byte.Tie as tie
-use Rattle.escape.proofs.bare.bare_byte.Reads as reads
-use Rattle.escape.proofs.bare.bare_byte.Lts as lts
 
 returns : tie.Need-returns
 unfolding isBare

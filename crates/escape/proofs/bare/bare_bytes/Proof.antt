@@ -1,12 +1,9 @@
-use mathlib.Core.Path.{_≡_, refl, sym, ap, _∙_}
-use mathlib.Core.Bool.{Bool, true, false}
-use mathlib.Core.List.{List, [], _∷_, _++_}
-use mathlib.Core.Logic.{⊎-elim}
-use Prim.Native.Nat.{ℕ, zero, suc, _+_, _-_, _*_, _≤_, _<_}
-use native.Mathlib.Nat.{add-zero}
-use native.Mathlib.Numerals.{add-one}
+-- `escape::bare::bare_bytes` meets its contract. The invariant: the first i bytes are bare. Assumes nothing.
+use mathlib.Core.Path.{_≡_, sym, ap, _∙_}
+use mathlib.Core.Bool.{true, false}
+use Prim.Native.Nat.{_-_, _≤_}
 use native.Mathlib.Omega.{arith}
-use lib.ListN.{length, take, drop, getD, set, length-set, length-take, length-drop, length-append}
+use lib.ListN.{length, take, getD}
 use lib.Seq.{take-all}
 use borrow.Author.Needs.{needs}
 use borrow.Author.Tests.{not-true, not-false}
@@ -15,9 +12,6 @@ use Rattle.escape.specs.Forms.{isBare}
 use Rattle.escape.proofs.BareBytes.{all-start, all-byte, all-other}
 use Rattle.escape.proofs.bare.bare_bytes.Statement.{statement}
 use Rattle.escape.proofs.bare.bare_bytes.Tie as tie
-use Rattle.escape.proofs.bare.bare_bytes.Reads as reads
-use Rattle.escape.proofs.bare.bare_bytes.Lts as lts
-use Rattle.escape.proofs.bare.bare_byte.Reads as bare-byte-reads
 
 abbrev Inv-loop : tie.InvT-loop
 Inv-loop v i₀ i = (i ≤ length v) × (all isBare (take i v) ≡ true)

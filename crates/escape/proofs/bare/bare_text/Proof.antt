@@ -1,12 +1,10 @@
-use mathlib.Core.Path.{_≡_, refl, sym, ap, _∙_}
-use mathlib.Core.Bool.{Bool, true, false}
-use mathlib.Core.List.{List, [], _∷_, _++_}
-use mathlib.Core.Logic.{⊎-elim}
-use Prim.Native.Nat.{ℕ, zero, suc, _+_, _-_, _*_, _≤_, _<_}
-use native.Mathlib.Nat.{add-zero}
-use native.Mathlib.Numerals.{add-one}
+-- `escape::bare::bare_text` meets its contract. The invariant: the first i bytes are bare. The last block decides the rest, and those that it shares with the block before it
+-- are bare twice. Assumes nothing.
+use mathlib.Core.Path.{_≡_, sym, ap, _∙_}
+use mathlib.Core.Bool.{true}
+use Prim.Native.Nat.{ℕ, _+_, _-_, _≤_}
 use native.Mathlib.Omega.{arith}
-use lib.ListN.{length, take, drop, getD, set, length-set, length-take, length-drop, length-append}
+use lib.ListN.{length, take, drop, length-take, length-drop}
 use lib.Seq.{take-all}
 use borrow.Author.Needs.{needs}
 use borrow.Author.Tests.{not-true, not-false}
@@ -15,10 +13,6 @@ use Rattle.escape.specs.Forms.{isBare}
 use Rattle.escape.proofs.BareBytes.{all-start, all-next, all-stop, all-last}
 use Rattle.escape.proofs.bare.bare_text.Statement.{statement}
 use Rattle.escape.proofs.bare.bare_text.Tie as tie
-use Rattle.escape.proofs.bare.bare_text.Reads as reads
-use Rattle.escape.proofs.bare.bare_text.Lts as lts
-use Rattle.escape.proofs.bare.bare_block.Reads as bare-block-reads
-use Rattle.escape.proofs.bare.bare_bytes.Reads as bare-bytes-reads
 
 abbrev Inv-loop : tie.InvT-loop
 Inv-loop v last i₀ i = (i ≤ last + 16) × (all isBare (take i v) ≡ true)

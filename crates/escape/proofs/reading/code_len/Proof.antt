@@ -1,18 +1,10 @@
-use mathlib.Core.Path.{_≡_, refl, sym, ap, _∙_}
-use mathlib.Core.Bool.{Bool, true, false}
-use mathlib.Core.List.{List, [], _∷_, _++_}
-use mathlib.Core.Logic.{⊎-elim}
-use Prim.Native.Nat.{ℕ, zero, suc, _+_, _-_, _*_, _≤_, _<_}
-use native.Mathlib.Nat.{add-zero}
-use native.Mathlib.Numerals.{add-one}
+-- `escape::reading::code_len` meets its contract. The encoding by the size of the number. Assumes nothing.
+use mathlib.Core.Path.{sym, ap}
 use native.Mathlib.Omega.{arith}
-use lib.ListN.{length, take, drop, getD, set, length-set, length-take, length-drop, length-append}
-use borrow.Author.Needs.{needs}
+use lib.ListN.{length}
 use Rattle.format.proofs.Characters.Scalars.{encoding-one, encoding-two, encoding-three, encoding-four}
 use Rattle.escape.proofs.reading.code_len.Statement.{statement}
 use Rattle.escape.proofs.reading.code_len.Tie as tie
-use Rattle.escape.proofs.reading.code_len.Reads as reads
-use Rattle.escape.proofs.reading.code_len.Lts as lts
 
 returns : tie.Need-returns
 returns c = sym (ap length (encoding-one (c .before .args .n) (omega arith)))

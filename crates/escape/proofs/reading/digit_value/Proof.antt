@@ -1,22 +1,13 @@
-use mathlib.Core.Path.{_≡_, refl, sym, ap, _∙_}
-use mathlib.Core.Bool.{Bool, true, false}
-use mathlib.Core.List.{List, [], _∷_, _++_}
-use mathlib.Core.Logic.{⊎-elim}
-use Prim.Native.Nat.{ℕ, zero, suc, _+_, _-_, _*_, _≤_, _<_}
-use native.Mathlib.Nat.{add-zero}
-use native.Mathlib.Numerals.{add-one}
+-- `escape::reading::digit_value` meets its contract. Each byte by the range that it is in. Assumes nothing.
+use mathlib.Core.Path.{sym, ap}
 use native.Mathlib.Omega.{arith}
-use lib.ListN.{length, take, drop, getD, set, length-set, length-take, length-drop, length-append}
 use borrow.Author.Needs.{needs}
-use mathlib.Core.Option.{none, some}
 use Rattle.format.specs.Characters.{_to_}
 use Rattle.format.proofs.Characters.Table.{within-below, within-above}
 use Rattle.escape.specs.Reads.{orElse}
 use Rattle.escape.proofs.Digits.{digit-decimal, digit-lower, digit-upper, digit-none}
 use Rattle.escape.proofs.reading.digit_value.Statement.{statement}
 use Rattle.escape.proofs.reading.digit_value.Tie as tie
-use Rattle.escape.proofs.reading.digit_value.Reads as reads
-use Rattle.escape.proofs.reading.digit_value.Lts as lts
 
 cast-result : tie.Need-cast-result
 cast-result c = search needs

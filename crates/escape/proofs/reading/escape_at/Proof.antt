@@ -1,20 +1,10 @@
-use mathlib.Core.Path.{_≡_, refl, sym, ap, _∙_}
-use mathlib.Core.Bool.{Bool, true, false}
-use mathlib.Core.List.{List, [], _∷_, _++_}
-use mathlib.Core.Logic.{⊎-elim}
-use Prim.Native.Nat.{ℕ, zero, suc, _+_, _-_, _*_, _≤_, _<_}
-use native.Mathlib.Nat.{add-zero}
-use native.Mathlib.Numerals.{add-one}
+-- `escape::reading::escape_at` meets its contract. The byte behind the backslash decides. Assumes nothing.
+use mathlib.Core.Path.{sym, _∙_}
 use native.Mathlib.Omega.{arith}
-use lib.ListN.{length, take, drop, getD, set, length-set, length-take, length-drop, length-append}
 use borrow.Author.Needs.{needs}
 use Rattle.escape.proofs.Escapes.{at-end, at-long, at-short}
 use Rattle.escape.proofs.reading.escape_at.Statement.{statement}
 use Rattle.escape.proofs.reading.escape_at.Tie as tie
-use Rattle.escape.proofs.reading.escape_at.Reads as reads
-use Rattle.escape.proofs.reading.escape_at.Lts as lts
-use Rattle.escape.proofs.reading.long_escape.Reads as long-escape-reads
-use Rattle.escape.proofs.reading.short_escape.Reads as short-escape-reads
 
 returns : tie.Need-returns
 returns c =

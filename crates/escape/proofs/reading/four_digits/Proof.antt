@@ -1,20 +1,10 @@
-use mathlib.Core.Path.{_≡_, refl, sym, ap, _∙_}
-use mathlib.Core.Bool.{Bool, true, false}
-use mathlib.Core.List.{List, [], _∷_, _++_}
-use mathlib.Core.Logic.{⊎-elim}
-use Prim.Native.Nat.{ℕ, zero, suc, _+_, _-_, _*_, _≤_, _<_}
-use native.Mathlib.Nat.{add-zero}
-use native.Mathlib.Numerals.{add-one}
+-- `escape::reading::four_digits` meets its contract. A digit that is missing leaves no number. Assumes nothing.
+use Prim.Native.Nat.{_≤_}
 use native.Mathlib.Omega.{arith}
-use lib.ListN.{length, take, drop, getD, set, length-set, length-take, length-drop, length-append}
 use borrow.Author.Needs.{needs}
 use Rattle.escape.proofs.Digits.{digit-most, first-most, four-first, four-second, four-third, four-fourth, four-all}
 use Rattle.escape.proofs.reading.four_digits.Statement.{statement}
 use Rattle.escape.proofs.reading.four_digits.Tie as tie
-use Rattle.escape.proofs.reading.four_digits.Reads as reads
-use Rattle.escape.proofs.reading.four_digits.Lts as lts
-use Rattle.escape.proofs.reading.digit_value.Reads as digit-value-reads
-use Rattle.escape.proofs.reading.first_value.Reads as first-value-reads
 
 first-value-requires : tie.Need-first-value-requires
 first-value-requires c κs = search needs

@@ -1,22 +1,14 @@
-use mathlib.Core.Path.{_≡_, refl, sym, ap, _∙_}
-use mathlib.Core.Bool.{Bool, true, false}
-use mathlib.Core.List.{List, [], _∷_, _++_}
-use mathlib.Core.Logic.{⊎-elim}
-use Prim.Native.Nat.{ℕ, zero, suc, _+_, _-_, _*_, _≤_, _<_}
-use native.Mathlib.Nat.{add-zero}
-use native.Mathlib.Numerals.{add-one}
+-- `escape::reading::long_escape` meets its contract. Fewer than four bytes are none; else their number decides. Assumes nothing.
+use mathlib.Core.Path.{sym, ap, _∙_}
+use Prim.Native.Nat.{_+_}
 use native.Mathlib.Omega.{arith}
-use lib.ListN.{length, take, drop, getD, set, length-set, length-take, length-drop, length-append}
+use lib.ListN.{drop, getD, length-drop}
 use borrow.Author.Needs.{needs}
 use Rattle.escape.specs.Reads.{scalarOf}
 use Rattle.escape.proofs.Digits.{four-most, scalar-four}
 use Rattle.escape.proofs.Escapes.{long-few, long-four}
 use Rattle.escape.proofs.reading.long_escape.Statement.{statement}
 use Rattle.escape.proofs.reading.long_escape.Tie as tie
-use Rattle.escape.proofs.reading.long_escape.Reads as reads
-use Rattle.escape.proofs.reading.long_escape.Lts as lts
-use Rattle.escape.proofs.reading.four_digits.Reads as four-digits-reads
-use Rattle.escape.proofs.reading.scalar.Reads as scalar-reads
 
 sub-if1 : tie.Need-sub-if1
 sub-if1 c = search needs

@@ -1,12 +1,8 @@
-use mathlib.Core.Path.{_≡_, refl, sym, ap, _∙_}
-use mathlib.Core.Bool.{Bool, true, false}
-use mathlib.Core.List.{List, [], _∷_, _++_}
-use mathlib.Core.Logic.{⊎-elim}
-use Prim.Native.Nat.{ℕ, _+_, _/_, _%_, _≤_, _<_}
-use native.Mathlib.Nat.{add-zero}
-use native.Mathlib.Numerals.{add-one}
+-- `escape::reading::put_code` meets its contract. One, two or three stores, one behind another. Assumes nothing.
+use mathlib.Core.Path.{sym, ap, _∙_}
+use Prim.Native.Nat.{_+_, _/_, _%_}
 use native.Mathlib.Omega.{arith}
-use lib.ListN.{length, take, drop, getD, set, length-set, length-take, length-drop, length-append}
+use lib.ListN.{length, length-set}
 use borrow.Author.Needs.{needs}
 use Rattle.format.specs.Bytes.{Bytes, pasted}
 use Rattle.format.proofs.Characters.Scalars.{encoding-one, encoding-two, encoding-three}
@@ -14,8 +10,6 @@ use Rattle.octets.proofs.Paste.{pasted-one}
 use Rattle.escape.proofs.Forms.{stores-two, stores-three}
 use Rattle.escape.proofs.reading.put_code.Statement.{statement}
 use Rattle.escape.proofs.reading.put_code.Tie as tie
-use Rattle.escape.proofs.reading.put_code.Reads as reads
-use Rattle.escape.proofs.reading.put_code.Lts as lts
 
 cast-out : tie.Need-cast-out
 cast-out c = search needs

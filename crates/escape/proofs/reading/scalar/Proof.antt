@@ -1,19 +1,11 @@
-use mathlib.Core.Path.{_≡_, refl, sym, ap, _∙_}
-use mathlib.Core.Bool.{Bool, true, false}
-use mathlib.Core.List.{List, [], _∷_, _++_}
-use mathlib.Core.Logic.{⊎-elim}
-use Prim.Native.Nat.{ℕ, zero, suc, _+_, _-_, _*_, _≤_, _<_}
-use native.Mathlib.Nat.{add-zero}
-use native.Mathlib.Numerals.{add-one}
+-- `escape::reading::scalar` meets its contract. The number by its size. Assumes nothing.
+use mathlib.Core.Path.{sym, ap, _∙_}
+use Prim.Native.Nat.{_<_}
 use native.Mathlib.Omega.{arith}
-use lib.ListN.{length, take, drop, getD, set, length-set, length-take, length-drop, length-append}
-use borrow.Author.Needs.{needs}
 use Rattle.escape.specs.Reads.{scalarOf}
 use Rattle.escape.proofs.Digits.{scalar-below, scalar-above, scalar-surrogate, scalar-none, below-most}
 use Rattle.escape.proofs.reading.scalar.Statement.{statement}
 use Rattle.escape.proofs.reading.scalar.Tie as tie
-use Rattle.escape.proofs.reading.scalar.Reads as reads
-use Rattle.escape.proofs.reading.scalar.Lts as lts
 
 returns : tie.Need-returns
 returns c = (sym (scalar-below (c .before .args .n) (omega arith)), omega arith)

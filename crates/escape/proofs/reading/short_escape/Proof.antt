@@ -1,20 +1,11 @@
-use mathlib.Core.Path.{_≡_, refl, sym, ap, _∙_}
-use mathlib.Core.Bool.{Bool, true, false}
-use mathlib.Core.List.{List, [], _∷_, _++_}
-use mathlib.Core.Logic.{⊎-elim}
-use Prim.Native.Nat.{ℕ, zero, suc, _+_, _-_, _*_, _≤_, _<_}
-use native.Mathlib.Nat.{add-zero}
-use native.Mathlib.Numerals.{add-one}
+-- `escape::reading::short_escape` meets its contract. Each letter by its arm. Assumes nothing.
+use mathlib.Core.Path.{refl, sym}
 use native.Mathlib.Omega.{arith}
-use lib.ListN.{length, take, drop, getD, set, length-set, length-take, length-drop, length-append}
-use borrow.Author.Needs.{needs}
 use Rattle.format.specs.Characters.{encoding}
 use Rattle.format.specs.Escaping.{shortEscape}
 use Rattle.escape.proofs.Escapes.{short-other}
 use Rattle.escape.proofs.reading.short_escape.Statement.{statement}
 use Rattle.escape.proofs.reading.short_escape.Tie as tie
-use Rattle.escape.proofs.reading.short_escape.Reads as reads
-use Rattle.escape.proofs.reading.short_escape.Lts as lts
 
 returns : tie.Need-returns
 unfolding shortEscape encoding

@@ -1,12 +1,9 @@
+-- `escape::reading::unescape_header_value` meets its contract. The invariant: w has been read from the first i bytes, and is written from the place at on. Assumes nothing.
 use mathlib.Core.Path.{_≡_, refl, sym, ap, _∙_}
-use mathlib.Core.Bool.{Bool, true, false}
-use mathlib.Core.List.{List, [], _∷_, _++_}
-use mathlib.Core.Logic.{⊎-elim}
-use Prim.Native.Nat.{ℕ, zero, suc, _+_, _-_, _*_, _≤_, _<_}
-use native.Mathlib.Nat.{add-zero}
-use native.Mathlib.Numerals.{add-one}
+use mathlib.Core.List.{[], _++_}
+use Prim.Native.Nat.{ℕ, _+_, _-_, _≤_}
 use native.Mathlib.Omega.{arith}
-use lib.ListN.{length, take, drop, getD, set, length-set, length-take, length-drop, length-append}
+use lib.ListN.{length, take, drop, length-take, length-drop, length-append}
 use lib.Seq.{take-all}
 use borrow.Author.Needs.{needs}
 use mathlib.Core.Option.{some, none}
@@ -15,17 +12,10 @@ use Rattle.format.specs.Characters.{encoding}
 use Rattle.format.specs.Escaping.{escapeAt, inFront, unescape}
 use Rattle.format.proofs.Escaping.Unescape.{behind-nil}
 use Rattle.octets.proofs.Paste.{pasted-nil, length-pasted}
-use Rattle.escape.specs.Reads.{valueOf, escapeOf, codeOf}
+use Rattle.escape.specs.Reads.{escapeOf, codeOf}
 use Rattle.escape.proofs.Escapes.{stretch-within, read-stretch, read-end, read-refused, read-escape, escape-within, not-refused, front-room, stretch-length, behind-written}
 use Rattle.escape.proofs.reading.unescape_header_value.Statement.{statement}
 use Rattle.escape.proofs.reading.unescape_header_value.Tie as tie
-use Rattle.escape.proofs.reading.unescape_header_value.Reads as reads
-use Rattle.escape.proofs.reading.unescape_header_value.Lts as lts
-use Rattle.escape.proofs.reading.code_len.Reads as code-len-reads
-use Rattle.escape.proofs.reading.escape_at.Reads as escape-at-reads
-use Rattle.escape.proofs.reading.put_code.Reads as put-code-reads
-use Rattle.octets.proofs.copy_at.Reads as copy-at-reads
-use Rattle.octets.proofs.find_byte.Reads as find-byte-reads
 
 abbrev Inv-loop : tie.InvT-loop
 Inv-loop out₀ at s to₀ i₀ out to i =
@@ -44,35 +34,35 @@ loop-holds c =
     let args = c .before .before .args in
     (omega arith, refl, [], sym (behind-nil (unescape (args .s .now))), omega arith, sym (pasted-nil (args .at) (args .out .now)))
 
-sub-find-byte : tie.Need-sub-find-byte Inv-loop μ-loop
-sub-find-byte c = search needs
+sub-find-in-blocks : tie.Need-sub-find-in-blocks Inv-loop μ-loop
+sub-find-in-blocks c = search needs
 
-part-find-byte-start : tie.Need-part-find-byte-start Inv-loop μ-loop
-part-find-byte-start c = search needs
+part-find-in-blocks-start : tie.Need-part-find-in-blocks-start Inv-loop μ-loop
+part-find-in-blocks-start c = search needs
 
-part-find-byte-end : tie.Need-part-find-byte-end Inv-loop μ-loop
-part-find-byte-end c = search needs
+part-find-in-blocks-end : tie.Need-part-find-in-blocks-end Inv-loop μ-loop
+part-find-in-blocks-end c = search needs
 
-find-byte-requires : tie.Need-find-byte-requires Inv-loop μ-loop
-find-byte-requires c κs = search needs
+find-in-blocks-requires : tie.Need-find-in-blocks-requires Inv-loop μ-loop
+find-in-blocks-requires c κs = search needs
 
 -- the next backslash
-found : (c : tie.After-find-byte Inv-loop μ-loop) → c .find-byte .result ≡ length (upTo 92 (drop (c .before .before .loop .i) (c .before .before .before .before .before .args .s .now)))
+found : (c : tie.After-find-in-blocks Inv-loop μ-loop) → c .find-in-blocks .result ≡ length (upTo 92 (drop (c .before .before .loop .i) (c .before .before .before .before .before .args .s .now)))
 found c =
     let s = c .before .before .before .before .before .args .s .now in
     let i = c .before .before .loop .i in
-    c .find-byte .ensures ∙ ap (λ (l : Bytes). length (upTo 92 l)) (take-all (length s - i) (drop i s) (simp length-drop (omega arith)))
+    c .find-in-blocks .ensures ∙ ap (λ (l : Bytes). length (upTo 92 l)) (take-all (length s - i) (drop i s) (simp length-drop (omega arith)))
 
-within : (c : tie.After-find-byte Inv-loop μ-loop) → c .before .before .loop .i + c .find-byte .result ≤ length (c .before .before .before .before .before .args .s .now)
-within c = stretch-within (c .before .before .before .before .before .args .s .now) (c .before .before .loop .i) (c .find-byte .result) (found c) (omega arith)
+within : (c : tie.After-find-in-blocks Inv-loop μ-loop) → c .before .before .loop .i + c .find-in-blocks .result ≤ length (c .before .before .before .before .before .args .s .now)
+within c = stretch-within (c .before .before .before .before .before .args .s .now) (c .before .before .loop .i) (c .find-in-blocks .result) (found c) (omega arith)
 
 -- there is room for the stretch before it
-room : (c : tie.After-find-byte Inv-loop μ-loop) → c .before .before .loop .to + c .find-byte .result ≤ length (c .before .before .before .before .before .args .out .now)
+room : (c : tie.After-find-in-blocks Inv-loop μ-loop) → c .before .before .loop .to + c .find-in-blocks .result ≤ length (c .before .before .before .before .before .args .out .now)
 room c =
     let start = c .before .before .before .before .before in
     let s = start .args .s .now in
     let l = c .before .before .loop in
-    let k = c .find-byte .result in
+    let k = c .find-in-blocks .result in
     let w = l .inv .2 in
     let x = w ++ take k (drop (l .i) s) in
     omega (
@@ -104,13 +94,13 @@ copied :
     → c .copy-at .last .0
     ≡ pasted (c .before .before .before .before .before .before .before .before .args .at)
     (c .before .before .before .before .before .loop .inv .2
-    ++ take (c .before .before .before .find-byte .result) (drop (c .before .before .before .before .before .loop .i) (c .before .before .before .before .before .before .before .before .args .s .now)))
+    ++ take (c .before .before .before .find-in-blocks .result) (drop (c .before .before .before .before .before .loop .i) (c .before .before .before .before .before .before .before .before .args .s .now)))
     (c .before .before .before .before .before .before .before .before .args .out .now)
 copied c =
     let f = c .before .before .before in
     let args = f .before .before .before .before .before .args in
     let l = f .before .before .loop in
-    let k = f .find-byte .result in
+    let k = f .find-in-blocks .result in
     let n : l .i + k - l .i ≡ k = omega arith in
     behind-written (args .at) (l .to) (l .inv .2) (take k (drop (l .i) (args .s .now))) (args .out .now) (l .out) (c .copy-at .last .0) (omega (arith, room f, l .inv .4)) (l .inv .4)
     (l .inv .5)
@@ -122,7 +112,7 @@ kept c =
     let f = c .before .before .before in
     let args = f .before .before .before .before .before .args in
     let l = f .before .before .loop in
-    let k = f .find-byte .result in
+    let k = f .find-in-blocks .result in
     ap length (copied c)
     ∙ length-pasted (args .at) (l .inv .2 ++ take k (drop (l .i) (args .s .now))) (args .out .now)
     (omega (arith, room f, l .inv .4, stretch-length (args .s .now) (l .i) k (l .inv .2) (within f)))
@@ -138,7 +128,7 @@ returns c =
     let f = c .before .before .before .before .before .before in
     let args = f .before .before .before .before .before .args in
     let l = f .before .before .loop in
-    let k = f .find-byte .result in
+    let k = f .find-in-blocks .result in
     let w = l .inv .2 in
     rw (read-end (args .s .now) (l .i) k (found f) w (l .inv .3) (omega arith))
     (omega (arith, stretch-length (args .s .now) (l .i) k w (within f), l .inv .4), copied (c .before .before .before))
@@ -160,10 +150,10 @@ returns-2 c =
     let f = c .before .before .before .before .before .before .before .before .before in
     let start = f .before .before .before .before .before in
     let l = f .before .before .loop in
-    let q : escapeAt (drop (l .i + f .find-byte .result + 1) (start .args .s .now)) ≡ none =
+    let q : escapeAt (drop (l .i + f .find-in-blocks .result + 1) (start .args .s .now)) ≡ none =
     sym (c .before .before .escape-at .ensures .0) ∙ ap escapeOf (c .enum-told .given .1) in
     not-refused (unescape (start .args .s .now)) (start .pre .0)
-    (read-refused (start .args .s .now) (l .i) (f .find-byte .result) (found f) (l .inv .2) (l .inv .3) (omega arith) q)
+    (read-refused (start .args .s .now) (l .i) (f .find-in-blocks .result) (found f) (l .inv .2) (l .inv .3) (omega arith) q)
 
 enum-known-e : tie.Need-enum-known-e Inv-loop μ-loop
 enum-known-e c = search needs
@@ -171,28 +161,28 @@ enum-known-e c = search needs
 -- the escape behind the backslash
 coded :
     (c : tie.After-e Inv-loop μ-loop)
-    → escapeAt (drop (c .before .before .before .before .before .before .before .before .before .before .before .loop .i + c .before .before .before .before .before .before .before .before .before .find-byte .result + 1) (c .before .before .before .before .before .before .before .before .before .before .before .before .before .before .args .s .now))
+    → escapeAt (drop (c .before .before .before .before .before .before .before .before .before .before .before .loop .i + c .before .before .before .before .before .before .before .before .before .find-in-blocks .result + 1) (c .before .before .before .before .before .before .before .before .before .before .before .before .before .before .args .s .now))
     ≡ some (record { stands = encoding (c .e .given .0 .0); takes = c .e .given .0 .1 .0 })
 coded c = sym (c .before .before .escape-at .ensures .0) ∙ ap escapeOf (c .e .given .1)
 
 ends :
     (c : tie.After-e Inv-loop μ-loop)
-    → (c .before .before .before .before .before .before .before .before .before .before .before .loop .i + c .before .before .before .before .before .before .before .before .before .find-byte .result + 1 + c .e .given .0 .1 .0 ≤ length (c .before .before .before .before .before .before .before .before .before .before .before .before .before .before .args .s .now))
+    → (c .before .before .before .before .before .before .before .before .before .before .before .loop .i + c .before .before .before .before .before .before .before .before .before .find-in-blocks .result + 1 + c .e .given .0 .1 .0 ≤ length (c .before .before .before .before .before .before .before .before .before .before .before .before .before .before .args .s .now))
     × (length (encoding (c .e .given .0 .0)) ≤ 1 + c .e .given .0 .1 .0)
 ends c =
     let f = c .before .before .before .before .before .before .before .before .before in
-    escape-within (f .before .before .before .before .before .args .s .now) (f .before .before .loop .i + f .find-byte .result + 1) _ (omega (arith, within f)) (coded c)
+    escape-within (f .before .before .before .before .before .args .s .now) (f .before .before .loop .i + f .find-in-blocks .result + 1) _ (omega (arith, within f)) (coded c)
 
 -- there is room for what it stands for
 room-behind :
     (c : tie.After-e Inv-loop μ-loop)
-    → c .before .before .before .before .before .before .before .before .before .before .before .loop .to + c .before .before .before .before .before .before .before .before .before .find-byte .result + length (encoding (c .e .given .0 .0)) ≤ length (c .before .before .before .before .before .before .before .before .before .before .before .before .before .before .args .out .now)
+    → c .before .before .before .before .before .before .before .before .before .before .before .loop .to + c .before .before .before .before .before .before .before .before .before .find-in-blocks .result + length (encoding (c .e .given .0 .0)) ≤ length (c .before .before .before .before .before .before .before .before .before .before .before .before .before .before .args .out .now)
 room-behind c =
     let f = c .before .before .before .before .before .before .before .before .before in
     let start = f .before .before .before .before .before in
     let s = start .args .s .now in
     let l = f .before .before .loop in
-    let k = f .find-byte .result in
+    let k = f .find-in-blocks .result in
     let w = l .inv .2 in
     let x = w ++ take k (drop (l .i) s) in
     let g = encoding (c .e .given .0 .0) in
@@ -232,7 +222,7 @@ loop-again c =
     let args = f .before .before .before .before .before .args in
     let s = args .s .now in
     let l = f .before .before .loop in
-    let k = f .find-byte .result in
+    let k = f .find-in-blocks .result in
     let w = l .inv .2 in
     let x = w ++ take k (drop (l .i) s) in
     let g = encoding (e .e .given .0 .0) in
@@ -258,10 +248,10 @@ unescape-header-value-spec =
     Inv-loop
     μ-loop
     loop-holds
-    sub-find-byte
-    part-find-byte-start
-    part-find-byte-end
-    find-byte-requires
+    sub-find-in-blocks
+    part-find-in-blocks-start
+    part-find-in-blocks-end
+    find-in-blocks-requires
     add-end
     sub-copy-at
     part-copy-at-start

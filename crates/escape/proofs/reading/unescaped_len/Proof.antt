@@ -1,28 +1,20 @@
+-- `escape::reading::unescaped_len` meets its contract. The invariant: w, of n bytes, has been read from the first i, and n is at most i. Assumes nothing.
 use mathlib.Core.Path.{_≡_, refl, sym, ap, _∙_}
-use mathlib.Core.Bool.{Bool, true, false}
-use mathlib.Core.List.{List, [], _∷_, _++_}
-use mathlib.Core.Logic.{⊎-elim}
-use Prim.Native.Nat.{ℕ, zero, suc, _+_, _-_, _*_, _≤_, _<_}
-use native.Mathlib.Nat.{add-zero}
-use native.Mathlib.Numerals.{add-one}
+use mathlib.Core.List.{[], _++_}
+use Prim.Native.Nat.{ℕ, _+_, _-_, _≤_}
 use native.Mathlib.Omega.{arith}
-use lib.ListN.{length, take, drop, getD, set, length-set, length-take, length-drop, length-append}
+use lib.ListN.{length, take, drop, length-drop, length-append}
 use lib.Seq.{take-all}
 use borrow.Author.Needs.{needs}
 use mathlib.Core.Option.{some, none}
 use Rattle.format.specs.Bytes.{Bytes, upTo}
 use Rattle.format.specs.Characters.{encoding}
-use Rattle.format.specs.Escaping.{Escape, escapeAt, inFront, unescape}
+use Rattle.format.specs.Escaping.{escapeAt, inFront, unescape}
 use Rattle.format.proofs.Escaping.Unescape.{behind-nil}
 use Rattle.escape.specs.Reads.{measured, escapeOf}
 use Rattle.escape.proofs.Escapes.{stretch-within, read-end, read-refused, read-escape, escape-within, measured-some, stretch-length}
 use Rattle.escape.proofs.reading.unescaped_len.Statement.{statement}
 use Rattle.escape.proofs.reading.unescaped_len.Tie as tie
-use Rattle.escape.proofs.reading.unescaped_len.Reads as reads
-use Rattle.escape.proofs.reading.unescaped_len.Lts as lts
-use Rattle.escape.proofs.reading.code_len.Reads as code-len-reads
-use Rattle.escape.proofs.reading.escape_at.Reads as escape-at-reads
-use Rattle.octets.proofs.find_byte.Reads as find-byte-reads
 
 abbrev Inv-loop : tie.InvT-loop
 Inv-loop s n₀ i₀ n i = (i ≤ length s) × (n ≤ i) × (w : Bytes) × (unescape s ≡ inFront w (unescape (drop i s))) × (length w ≡ n)
@@ -33,27 +25,27 @@ abbrev μ-loop : tie.MeasureT-loop
 loop-holds : tie.Need-loop-holds Inv-loop μ-loop
 loop-holds c = (omega arith, omega arith, [], sym (behind-nil (unescape (c .before .args .s .now))), refl)
 
-sub-find-byte : tie.Need-sub-find-byte Inv-loop μ-loop
-sub-find-byte c = search needs
+sub-find-in-blocks : tie.Need-sub-find-in-blocks Inv-loop μ-loop
+sub-find-in-blocks c = search needs
 
-part-find-byte-start : tie.Need-part-find-byte-start Inv-loop μ-loop
-part-find-byte-start c = search needs
+part-find-in-blocks-start : tie.Need-part-find-in-blocks-start Inv-loop μ-loop
+part-find-in-blocks-start c = search needs
 
-part-find-byte-end : tie.Need-part-find-byte-end Inv-loop μ-loop
-part-find-byte-end c = search needs
+part-find-in-blocks-end : tie.Need-part-find-in-blocks-end Inv-loop μ-loop
+part-find-in-blocks-end c = search needs
 
-find-byte-requires : tie.Need-find-byte-requires Inv-loop μ-loop
-find-byte-requires c κs = search needs
+find-in-blocks-requires : tie.Need-find-in-blocks-requires Inv-loop μ-loop
+find-in-blocks-requires c κs = search needs
 
 -- the next backslash
-found : (c : tie.After-find-byte Inv-loop μ-loop) → c .find-byte .result ≡ length (upTo 92 (drop (c .before .before .loop .i) (c .before .before .before .before .args .s .now)))
+found : (c : tie.After-find-in-blocks Inv-loop μ-loop) → c .find-in-blocks .result ≡ length (upTo 92 (drop (c .before .before .loop .i) (c .before .before .before .before .args .s .now)))
 found c =
     let s = c .before .before .before .before .args .s .now in
     let i = c .before .before .loop .i in
-    c .find-byte .ensures ∙ ap (λ (l : Bytes). length (upTo 92 l)) (take-all (length s - i) (drop i s) (simp length-drop (omega arith)))
+    c .find-in-blocks .ensures ∙ ap (λ (l : Bytes). length (upTo 92 l)) (take-all (length s - i) (drop i s) (simp length-drop (omega arith)))
 
-within : (c : tie.After-find-byte Inv-loop μ-loop) → c .before .before .loop .i + c .find-byte .result ≤ length (c .before .before .before .before .args .s .now)
-within c = stretch-within (c .before .before .before .before .args .s .now) (c .before .before .loop .i) (c .find-byte .result) (found c) (omega arith)
+within : (c : tie.After-find-in-blocks Inv-loop μ-loop) → c .before .before .loop .i + c .find-in-blocks .result ≤ length (c .before .before .before .before .args .s .now)
+within c = stretch-within (c .before .before .before .before .args .s .now) (c .before .before .loop .i) (c .find-in-blocks .result) (found c) (omega arith)
 
 add-n : tie.Need-add-n Inv-loop μ-loop
 add-n c = omega (arith, within c)
@@ -66,7 +58,7 @@ returns c =
     let at-loop = c .before .before .before in
     let s = at-loop .before .before .args .s .now in
     let l = at-loop .loop in
-    let k = c .before .find-byte .result in
+    let k = c .before .find-in-blocks .result in
     let w = l .inv .2 in
     measured-some (unescape s) (w ++ take k (drop (l .i) s)) (l .n + k)
     (read-end s (l .i) k (found (c .before)) w (l .inv .3) (omega arith)) (stretch-length s (l .i) k w (within (c .before)) ∙ ap (λ (n : ℕ). n + k) (l .inv .4))
@@ -86,7 +78,7 @@ returns-2 c =
     let at-loop = f .before .before in
     let s = at-loop .before .before .args .s .now in
     let l = at-loop .loop in
-    let k = f .find-byte .result in
+    let k = f .find-in-blocks .result in
     let r = c .before .before .escape-at in
     let q : escapeAt (drop (l .i + k + 1) s) ≡ none = sym (r .ensures .0) ∙ ap escapeOf (c .enum-told .given .1) in
     sym (ap measured (read-refused s (l .i) k (found f) (l .inv .2) (l .inv .3) (omega arith) q))
@@ -97,18 +89,18 @@ enum-known-e c = search needs
 -- the escape behind it
 coded :
     (c : tie.After-e Inv-loop μ-loop)
-    → escapeAt (drop (c .before .before .before .before .before .before .loop .i + c .before .before .before .before .find-byte .result + 1) (c .before .before .before .before .before .before .before .before .args .s .now))
+    → escapeAt (drop (c .before .before .before .before .before .before .loop .i + c .before .before .before .before .find-in-blocks .result + 1) (c .before .before .before .before .before .before .before .before .args .s .now))
     ≡ some (record { stands = encoding (c .e .given .0 .0); takes = c .e .given .0 .1 .0 })
 coded c = sym (c .before .before .escape-at .ensures .0) ∙ ap escapeOf (c .e .given .1)
 
 ends :
     (c : tie.After-e Inv-loop μ-loop)
-    → (c .before .before .before .before .before .before .loop .i + c .before .before .before .before .find-byte .result + 1 + c .e .given .0 .1 .0
+    → (c .before .before .before .before .before .before .loop .i + c .before .before .before .before .find-in-blocks .result + 1 + c .e .given .0 .1 .0
     ≤ length (c .before .before .before .before .before .before .before .before .args .s .now))
     × (length (encoding (c .e .given .0 .0)) ≤ 1 + c .e .given .0 .1 .0)
 ends c =
     let f = c .before .before .before .before in
-    escape-within (f .before .before .before .before .args .s .now) (f .before .before .loop .i + f .find-byte .result + 1) _ (omega (arith, within f)) (coded c)
+    escape-within (f .before .before .before .before .args .s .now) (f .before .before .loop .i + f .find-in-blocks .result + 1) _ (omega (arith, within f)) (coded c)
 
 code-len-requires : tie.Need-code-len-requires Inv-loop μ-loop
 code-len-requires c κs = search needs
@@ -131,7 +123,7 @@ loop-again c =
     let f = e .before .before .before .before in
     let s = f .before .before .before .before .args .s .now in
     let l = f .before .before .loop in
-    let k = f .find-byte .result in
+    let k = f .find-in-blocks .result in
     let w = l .inv .2 in
     let g = e .e .given .0 .0 in
     let a = stretch-length s (l .i) k w (within f) in
@@ -150,10 +142,10 @@ unescaped-len-spec =
     Inv-loop
     μ-loop
     loop-holds
-    sub-find-byte
-    part-find-byte-start
-    part-find-byte-end
-    find-byte-requires
+    sub-find-in-blocks
+    part-find-in-blocks-start
+    part-find-in-blocks-end
+    find-in-blocks-requires
     add-n
     add-end
     returns

@@ -1,19 +1,10 @@
-use mathlib.Core.Path.{_≡_, refl, sym, ap, _∙_}
-use mathlib.Core.Bool.{Bool, true, false}
-use mathlib.Core.List.{List, [], _∷_, _++_}
-use mathlib.Core.Logic.{⊎-elim}
-use Prim.Native.Nat.{ℕ, zero, suc, _+_, _-_, _*_, _≤_, _<_}
-use native.Mathlib.Nat.{add-zero}
-use native.Mathlib.Numerals.{add-one}
-use native.Mathlib.Omega.{arith}
-use lib.ListN.{length, take, drop, getD, set, length-set, length-take, length-drop, length-append}
+-- `escape::writing::digit` meets its contract. The digit by its size. Assumes nothing.
+use mathlib.Core.Path.{refl}
 use borrow.Author.Needs.{needs}
 use borrow.Author.Tests.{lt-ltb, le-ltb}
 use Rattle.format.specs.Escaping.{digit}
 use Rattle.escape.proofs.writing.digit.Statement.{statement}
 use Rattle.escape.proofs.writing.digit.Tie as tie
-use Rattle.escape.proofs.writing.digit.Reads as reads
-use Rattle.escape.proofs.writing.digit.Lts as lts
 
 add-result : tie.Need-add-result
 add-result c = search needs

@@ -1,29 +1,17 @@
+-- `escape::writing::escape_header_value` meets its contract. The invariant: with what is left written at its place, the slice is as the contract says. Assumes nothing.
 use mathlib.Core.Path.{_≡_, refl, sym, ap, _∙_}
-use mathlib.Core.Bool.{Bool, true, false}
-use mathlib.Core.List.{List, [], _∷_, _++_}
-use mathlib.Core.Logic.{⊎-elim}
-use Prim.Native.Nat.{ℕ, zero, suc, _+_, _-_, _*_, _≤_, _<_}
-use native.Mathlib.Nat.{add-zero}
-use native.Mathlib.Numerals.{add-one}
+use Prim.Native.Nat.{_+_, _-_, _≤_}
 use native.Mathlib.Omega.{arith}
-use lib.ListN.{length, take, drop, getD, set, length-set, length-take, length-drop, length-append}
+use lib.ListN.{length, drop}
 use borrow.Author.Needs.{needs}
-use Rattle.format.specs.Bytes.{Bytes, all, pasted}
+use Rattle.format.specs.Bytes.{Bytes, pasted}
 use Rattle.format.specs.Escaping.{escape}
 use Rattle.octets.proofs.Paste.{pasted-nil, length-pasted}
-use Rattle.escape.specs.Forms.{isBare, takesForm, widthForm, writtenForm}
+use Rattle.escape.specs.Forms.{takesForm, widthForm, writtenForm}
 use Rattle.escape.proofs.BareBytes.{bare-escape}
 use Rattle.escape.proofs.Forms.{width-written, takes-some, turn-within, turn-length, turn-pasted, escape-end}
 use Rattle.escape.proofs.writing.escape_header_value.Statement.{statement}
 use Rattle.escape.proofs.writing.escape_header_value.Tie as tie
-use Rattle.escape.proofs.writing.escape_header_value.Reads as reads
-use Rattle.escape.proofs.writing.escape_header_value.Lts as lts
-use Rattle.escape.proofs.bare.bare_text.Reads as bare-text-reads
-use Rattle.escape.proofs.writing.form_at.Reads as form-at-reads
-use Rattle.escape.proofs.writing.put_form.Reads as put-form-reads
-use Rattle.escape.proofs.writing.takes.Reads as takes-reads
-use Rattle.escape.proofs.writing.width.Reads as width-reads
-use Rattle.octets.proofs.copy_at.Reads as copy-at-reads
 
 abbrev Inv-loop : tie.InvT-loop
 Inv-loop out₀ at v to₀ i₀ out to i =

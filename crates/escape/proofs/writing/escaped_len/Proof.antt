@@ -1,27 +1,15 @@
-use mathlib.Core.Path.{_≡_, refl, sym, ap, _∙_}
-use mathlib.Core.Bool.{Bool, true, false}
-use mathlib.Core.List.{List, [], _∷_, _++_}
-use mathlib.Core.Logic.{⊎-elim}
-use Prim.Native.Nat.{ℕ, zero, suc, _+_, _-_, _*_, _≤_, _<_}
-use native.Mathlib.Nat.{add-zero}
-use native.Mathlib.Numerals.{add-one}
+-- `escape::writing::escaped_len` meets its contract. The invariant: the length is n and what the bytes from i on are written in. Assumes nothing.
+use mathlib.Core.Path.{_≡_, sym, ap, _∙_}
+use Prim.Native.Nat.{_+_, _-_, _≤_}
 use native.Mathlib.Omega.{arith}
-use lib.ListN.{length, take, drop, getD, set, length-set, length-take, length-drop, length-append}
+use lib.ListN.{length, drop}
 use borrow.Author.Needs.{needs}
-use Rattle.format.specs.Bytes.{Bytes, all, pasted}
 use Rattle.format.specs.Escaping.{escape}
 use Rattle.format.proofs.Escaping.Escape.{escape-length}
-use Rattle.escape.specs.Forms.{isBare, takesForm, widthForm}
 use Rattle.escape.proofs.BareBytes.{bare-escape}
 use Rattle.escape.proofs.Forms.{takes-some, turn-within, turn-length, escape-end}
 use Rattle.escape.proofs.writing.escaped_len.Statement.{statement}
 use Rattle.escape.proofs.writing.escaped_len.Tie as tie
-use Rattle.escape.proofs.writing.escaped_len.Reads as reads
-use Rattle.escape.proofs.writing.escaped_len.Lts as lts
-use Rattle.escape.proofs.bare.bare_text.Reads as bare-text-reads
-use Rattle.escape.proofs.writing.form_at.Reads as form-at-reads
-use Rattle.escape.proofs.writing.takes.Reads as takes-reads
-use Rattle.escape.proofs.writing.width.Reads as width-reads
 
 abbrev Inv-loop : tie.InvT-loop
 Inv-loop v n₀ i₀ n i = (i ≤ length v) × (n + length (escape (drop i v)) ≡ length (escape v))

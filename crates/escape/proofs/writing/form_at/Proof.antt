@@ -1,21 +1,12 @@
-use mathlib.Core.Path.{_≡_, refl, sym, ap, _∙_}
-use mathlib.Core.Bool.{Bool, true, false}
-use mathlib.Core.List.{List, [], _∷_, _++_}
-use mathlib.Core.Logic.{⊎-elim}
-use Prim.Native.Nat.{ℕ, zero, suc, _+_, _-_, _*_, _≤_, _<_}
-use native.Mathlib.Nat.{add-zero}
-use native.Mathlib.Numerals.{add-one}
+-- `escape::writing::form_at` meets its contract. The form of the bytes from i on, by one byte or by two. Assumes nothing.
+use mathlib.Core.Path.{sym, _∙_}
 use native.Mathlib.Omega.{arith}
-use lib.ListN.{length, take, drop, getD, set, length-set, length-take, length-drop, length-append}
 use borrow.Author.Needs.{needs}
 use Rattle.format.proofs.Characters.Table.{within-below, within-above}
 use Rattle.format.specs.Characters.{_to_}
 use Rattle.escape.proofs.Forms.{form-other, form-end, form-beside, form-upper}
 use Rattle.escape.proofs.writing.form_at.Statement.{statement}
 use Rattle.escape.proofs.writing.form_at.Tie as tie
-use Rattle.escape.proofs.writing.form_at.Reads as reads
-use Rattle.escape.proofs.writing.form_at.Lts as lts
-use Rattle.escape.proofs.writing.byte_form.Reads as byte-form-reads
 
 shared-slice-read-b : tie.Need-shared-slice-read-b
 shared-slice-read-b c = search needs

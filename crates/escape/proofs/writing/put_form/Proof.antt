@@ -1,22 +1,13 @@
-use mathlib.Core.Path.{_≡_, refl, sym, ap, _∙_}
-use mathlib.Core.Bool.{Bool, true, false}
-use mathlib.Core.List.{List, [], _∷_, _++_}
-use mathlib.Core.Logic.{⊎-elim}
-use Prim.Native.Nat.{ℕ, zero, suc, _+_, _-_, _*_, _≤_, _<_}
-use native.Mathlib.Nat.{add-zero}
-use native.Mathlib.Numerals.{add-one}
+-- `escape::writing::put_form` meets its contract. The stores of each form. Assumes nothing.
+use mathlib.Core.Path.{refl, ap, _∙_}
 use native.Mathlib.Omega.{arith}
-use lib.ListN.{length, take, drop, getD, set, length-set, length-take, length-drop, length-append}
+use lib.ListN.{length-set}
 use borrow.Author.Needs.{needs}
-use Rattle.format.specs.Bytes.{Bytes, pasted}
 use Rattle.octets.proofs.Paste.{pasted-one}
-use Rattle.escape.specs.Forms.{widthForm, writtenForm}
+use Rattle.escape.specs.Forms.{widthForm}
 use Rattle.escape.proofs.Forms.{stores-two}
 use Rattle.escape.proofs.writing.put_form.Statement.{statement}
 use Rattle.escape.proofs.writing.put_form.Tie as tie
-use Rattle.escape.proofs.writing.put_form.Reads as reads
-use Rattle.escape.proofs.writing.put_form.Lts as lts
-use Rattle.escape.proofs.writing.put_unicode.Reads as put-unicode-reads
 
 enum-known-f : tie.Need-enum-known-f
 enum-known-f c = search needs

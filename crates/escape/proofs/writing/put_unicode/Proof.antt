@@ -1,20 +1,12 @@
-use mathlib.Core.Path.{_≡_, refl, sym, ap, _∙_}
-use mathlib.Core.Bool.{Bool, true, false}
-use mathlib.Core.List.{List, [], _∷_, _++_}
-use mathlib.Core.Logic.{⊎-elim}
-use Prim.Native.Nat.{ℕ, zero, suc, _+_, _-_, _*_, _≤_, _<_}
-use native.Mathlib.Nat.{add-zero}
-use native.Mathlib.Numerals.{add-one}
+-- `escape::writing::put_unicode` meets its contract. Six stores, one behind another; the two upper digits of a byte are zero. Assumes nothing.
+use mathlib.Core.Path.{sym, ap, _∙_}
 use native.Mathlib.Omega.{arith}
-use lib.ListN.{length, take, drop, getD, set, length-set, length-take, length-drop, length-append}
+use lib.ListN.{length-set}
 use borrow.Author.Needs.{needs}
 use Rattle.format.specs.Bytes.{pasted}
 use Rattle.escape.proofs.Forms.{unicode-small, stores-six}
 use Rattle.escape.proofs.writing.put_unicode.Statement.{statement}
 use Rattle.escape.proofs.writing.put_unicode.Tie as tie
-use Rattle.escape.proofs.writing.put_unicode.Reads as reads
-use Rattle.escape.proofs.writing.put_unicode.Lts as lts
-use Rattle.escape.proofs.writing.digit.Reads as digit-reads
 
 digit-requires : tie.Need-digit-requires
 digit-requires c κs = search needs

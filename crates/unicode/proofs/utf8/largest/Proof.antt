@@ -7,21 +7,21 @@ use Prim.Native.Nat.{_-_, _≤_}
 use native.Mathlib.Omega.{arith}
 use lib.ListN.{length, take}
 use borrow.Author.Needs.{needs}
-use lib.Seq.{take-length}
-use Rattle.unicode.proofs.Blocks.{all-none, top-more}
 use lib.Dec.{leb}
 use Rattle.format.specs.Bytes.{all}
+use lib.Seq.{take-length}
+use Rattle.unicode.proofs.Blocks.{all-none, top-more}
 use Rattle.unicode.proofs.utf8.largest.Statement.{statement}
 use Rattle.unicode.proofs.utf8.largest.Tie as tie
 
 abbrev Inv-loop : tie.InvT-loop
-Inv-loop part top₀ k₀ top k = (k ≤ 64) × (all (λ b. leb b top) (take k part) ≡ true)
+Inv-loop part top₀ k₀ k-end top k = (k-end ≡ length part) × (k ≤ k-end) × (all (λ b. leb b top) (take k part) ≡ true)
 
 abbrev μ-loop : tie.MeasureT-loop
-μ-loop part top₀ k₀ top k = 64 - k
+μ-loop part top₀ k₀ k-end top k = k-end - k
 
 loop-holds : tie.Need-loop-holds Inv-loop μ-loop
-loop-holds c = (omega arith, all-none (λ b. leb b 0))
+loop-holds c = (refl, omega arith, all-none (λ b. leb b 0))
 
 shared-slice-read-b : tie.Need-shared-slice-read-b Inv-loop μ-loop
 shared-slice-read-b c = search needs
@@ -34,17 +34,18 @@ loop-less c = search needs
 
 loop-again : tie.Need-loop-again Inv-loop μ-loop
 loop-again c = (
+  c .before .before .before .loop .inv .0,
   omega arith,
   top-more (c .before .before .before .before .args .part .now) (c .before .before .before .loop .k) (c .before .before .before .loop .top) (c .if1 .top) (omega arith)
       (⊎-elim (λ w. omega arith) (λ w. omega arith) (c .if1 .came))
       (⊎-elim (λ w. omega arith) (λ w. omega arith) (c .if1 .came))
-      (c .before .before .before .loop .inv .1),
+      (c .before .before .before .loop .inv .2),
 )
 
 returns : tie.Need-returns Inv-loop μ-loop
 returns c =
     let e : c .before .loop .k ≡ length (c .before .before .args .part .now) = omega arith in
-    ap (all (λ b. leb b (c .before .loop .top))) (sym (take-length (c .before .before .args .part .now)) ∙ rw (← e) refl) ∙ c .before .loop .inv .1
+    ap (all (λ b. leb b (c .before .loop .top))) (sym (take-length (c .before .before .args .part .now)) ∙ rw (← e) refl) ∙ c .before .loop .inv .2
 
 pub largest-spec : {M : Type 1} → statement M
 largest-spec =

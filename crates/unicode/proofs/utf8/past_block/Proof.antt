@@ -27,7 +27,8 @@ largest-requires : tie.Need-largest-requires
 largest-requires c κs = search needs
 
 returns : tie.Need-returns
-returns c = ascii-passed (c .before .before .before .before .args .s .now) (c .before .before .before .before .args .at) (c .before .before .before .before .args .at + 64 - c .before .before .before .before .args .at) (c .before .largest .result) (omega arith) (omega arith) (omega arith) (c .before .largest .ensures)
+returns c =
+    ascii-passed (c .before .before .before .before .args .s .now) (c .before .before .before .before .args .at) (c .before .before .before .before .args .at + 64) (c .before .largest .result) (omega arith) (omega arith) (omega arith) (c .before .largest .ensures)
 
 returns-2 : tie.Need-returns-2
 returns-2 c = stays (c .before .before .before .before .before .args .s .now) (c .before .before .before .before .before .args .at) (omega arith)

@@ -1,5 +1,5 @@
--- `unicode::utf8::utf8_end` meets its contract. The invariant: UTF-8 ends, from the place reached on, where it ends from the
--- first place on. Each turn goes on by a byte at least.
+-- `unicode::utf8::utf8_end` meets its contract. The invariant: UTF-8 ends, from the place reached on, where it ends from the first place
+-- on. Each turn goes on by a byte at least.
 -- Assumes nothing.
 use mathlib.Core.Path.{_≡_, refl, sym, _∙_}
 use mathlib.Core.Logic.{⊎-elim}
@@ -27,23 +27,23 @@ past-blocks-requires c κs = omega arith
 block-end-requires : tie.Need-block-end-requires Inv-loop μ-loop
 block-end-requires c κs = c .past-blocks .ensures .inside
 
-past-chars-requires : tie.Need-past-chars-requires Inv-loop μ-loop
-past-chars-requires c κs = (refl, c .before .before .past-blocks .ensures .inside, c .before .block-end .ensures .0)
+past-part-requires : tie.Need-past-part-requires Inv-loop μ-loop
+past-part-requires c κs = (refl, c .before .block-end .ensures .0, c .before .block-end .ensures .1)
 
 returns : tie.Need-returns Inv-loop μ-loop
-returns c = sym (c .before .before .before .before .before .before .loop .inv ∙ c .before .before .before .before .past-blocks .ensures .keeps ∙ c .before .past-chars .ensures .0 .keeps ∙ c .before .past-chars .ensures .1 (c .if1 .taken))
+returns c = sym (c .before .before .before .before .before .before .loop .inv ∙ c .before .before .before .before .past-blocks .ensures .keeps ∙ c .before .past-part .ensures .0 .keeps ∙ c .before .past-part .ensures .1 (c .if1 .taken))
 
 loop-less : tie.Need-loop-less Inv-loop μ-loop
 loop-less c =
     let p = c .before .before .before .before .past-blocks .ensures in
-    let q = c .before .past-chars .ensures .0 in
+    let q = c .before .past-part .ensures .0 in
     ⊎-elim
-    (λ l. omega (arith, c .before .before .before .block-end .ensures .1 l))
+    (λ l. omega (arith, c .before .before .before .block-end .ensures .2 l))
     (λ l. omega arith)
     (below (c .before .before .before .before .past-blocks .result) (length (c .before .before .before .before .before .before .before .before .args .s .now)))
 
 loop-again : tie.Need-loop-again Inv-loop μ-loop
-loop-again c = c .before .before .before .before .before .before .loop .inv ∙ c .before .before .before .before .past-blocks .ensures .keeps ∙ c .before .past-chars .ensures .0 .keeps
+loop-again c = c .before .before .before .before .before .before .loop .inv ∙ c .before .before .before .before .past-blocks .ensures .keeps ∙ c .before .past-part .ensures .0 .keeps
 
 returns-2 : tie.Need-returns-2 Inv-loop μ-loop
 returns-2 c = sym (c .before .loop .inv ∙ end-end (c .before .before .before .args .s .now) (c .before .loop .at) (omega arith))
@@ -57,7 +57,7 @@ utf8-end-spec =
     loop-holds
     past-blocks-requires
     block-end-requires
-    past-chars-requires
+    past-part-requires
     returns
     loop-less
     loop-again

@@ -1,23 +1,17 @@
-use mathlib.Core.Path.{_≡_, refl, sym, ap, _∙_}
-use mathlib.Core.Bool.{Bool, true, false}
-use mathlib.Core.List.{List, [], _∷_, _++_}
+-- `escape::blocks::has_low` meets its contract. The invariant: hit says whether one of the first k bytes is below 32. Assumes nothing.
+use mathlib.Core.Path.{_≡_, ap, _∙_}
 use mathlib.Core.Logic.{⊎-elim}
-use Prim.Native.Nat.{ℕ, zero, suc, _+_, _-_, _*_, _≤_, _<_}
-use native.Mathlib.Nat.{add-zero}
-use native.Mathlib.Numerals.{add-one}
+use Prim.Native.Nat.{_-_, _≤_}
 use native.Mathlib.Omega.{arith}
-use lib.ListN.{length, take, drop, getD, set, length-set, length-take, length-drop, length-append}
-use lib.Dec.{eqb, ltb}
+use lib.ListN.{take, getD}
 use lib.Seq.{take-all}
 use borrow.Author.Needs.{needs}
-use borrow.Author.Tests.{lt-ltb, le-ltb, eq-eqb, ne-eqb}
-use Rattle.format.specs.Bytes.{any, has}
+use borrow.Author.Tests.{lt-ltb, le-ltb}
+use Rattle.format.specs.Bytes.{any}
 use Rattle.escape.specs.Forms.{isLow}
-use Rattle.escape.proofs.BareBytes.{any-start, any-hit, any-miss}
-use Rattle.escape.proofs.bare.has_low.Statement.{statement}
-use Rattle.escape.proofs.bare.has_low.Tie as tie
-use Rattle.escape.proofs.bare.has_low.Reads as reads
-use Rattle.escape.proofs.bare.has_low.Lts as lts
+use Rattle.escape.proofs.Looking.{any-start, any-hit, any-miss}
+use Rattle.escape.proofs.blocks.has_low.Statement.{statement}
+use Rattle.escape.proofs.blocks.has_low.Tie as tie
 
 abbrev Inv-loop : tie.InvT-loop
 Inv-loop block hit₀ k₀ hit k = (k ≤ 16) × (hit ≡ any isLow (take k block))
