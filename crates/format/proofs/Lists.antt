@@ -1,19 +1,24 @@
 -- Laws of tests and lists that every other proof of this crate leans on. Assumes nothing.
-use Prim.Native.Nat.{ℕ, _+_}
+use Prim.Native.Nat.{ℕ, zero, suc, _+_, _-_, _≤_, _<_}
 use mathlib.Core.Path.{_≡_, refl, sym, _∙_}
 use mathlib.Core.Bool.{Bool, true, false, _&&_, _||_, false≢true, and-assoc}
-use mathlib.Core.Logic.{_⊎_, inl, inr}
+use mathlib.Core.Logic.{_⊎_, inl, inr, ⊎-elim}
 use mathlib.Core.List.{List, [], _∷_, _++_, append-assoc}
 use native.Mathlib.Omega.{arith}
-use lib.Dec.{eqb}
-use lib.ListN.{length, length-append}
-use borrow.Author.Tests.{eqb-true, eq-eqb}
+use lib.Dec.{ltb, eqb}
+use lib.ListN.{length, take, drop, getD, length-append, length-drop}
+use lib.Seq.{take-all}
+use borrow.Author.Tests.{ltb-true, ltb-false, eqb-true, eq-eqb}
 use Rattle.format.specs.Bytes.{Bytes, all, total, texts, same}
 
 -- a test passes or fails
 pub bcase : (b : Bool) → (b ≡ true) ⊎ (b ≡ false)
 bcase true = inl refl
 bcase false = inr refl
+
+-- a number is below another or not
+pub below : (n k : ℕ) → (n < k) ⊎ (k ≤ n)
+below n k = ⊎-elim (λ t. inl (ltb-true n k t)) (λ f. inr (ltb-false n k f)) (bcase (ltb n k))
 
 -- a test does not both pass and fail
 pub clash {ℓ} : {A : Type ℓ} {b : Bool} → b ≡ true → b ≡ false → A
@@ -61,6 +66,11 @@ module _ {A : Type 0} where
   unfolding all
   all-cons p x xs h k = and-intro (p x) (all p xs) h k
 
+  pub all-getD : (p : A → Bool) (xs : List A) (d : A) (i : ℕ) → all p xs ≡ true → i < length xs → p (getD xs i d) ≡ true
+  all-getD p [] d i h k = absurd (omega arith)
+  all-getD p (x ∷ xs) d zero h k = all-head p x xs h
+  all-getD p (x ∷ xs) d (suc i) h k = all-getD p xs d i (all-tail p x xs h) (omega arith)
+
   -- what one test gives of every element, another may take up
   pub all-map : (p q : A → Bool) → ((x : A) → p x ≡ true → q x ≡ true) → (xs : List A) → all p xs ≡ true → all q xs ≡ true
   unfolding all
@@ -88,6 +98,10 @@ unfolding all texts
 all-texts p f [] h = refl
 all-texts p f (x ∷ xs) h =
     all-append p (f x) (texts f xs) ∙ and-intro (all p (f x)) (all p (texts f xs)) (all-head (λ x. all p (f x)) x xs h) (all-texts p f xs (all-tail (λ x. all p (f x)) x xs h))
+
+-- a part that reaches to the end is all that is left from its start on
+pub rest-is : (s : Bytes) (at : ℕ) → take (length s - at) (drop at s) ≡ drop at s
+rest-is s at = take-all (length s - at) (drop at s) (omega (arith, length-drop at s))
 
 pub same-eq : (s t : Bytes) → same s t ≡ true → s ≡ t
 unfolding same

@@ -16,7 +16,7 @@ ghost use Rattle.sections.specs.Place.{place};
 pub extern "C" fn leaves_is_utf8(s: &[u8]) -> bool
     ensures { λ r. ⌜ r ≡ isUtf8 (now (s .entry)) ⌝ }
 {
-    unicode::is_utf8(s)
+    utf8::is_utf8(s)
 }
 
 #[no_mangle]
@@ -40,7 +40,7 @@ pub extern "C" fn leaves_trim(out: &mut [u8], s: &[u8]) -> usize
     ensures len { λ r. ⌜ r ≡ length (trim (now (s .entry))) ⌝ }
     ensures bytes { λ _. ⌜ now (out .exit) ≡ pasted 0 (trim (now (s .entry))) (now (out .entry)) ⌝ }
 {
-    let t = unicode::trim(s);
+    let t = trimming::trim(s);
     octets::copy_at(out, 0, t);
     t.len()
 }
@@ -50,7 +50,7 @@ pub extern "C" fn leaves_replaced_len(s: &[u8]) -> usize
     requires { ⌜ length (now s) ≤ 2 ^ 60 ⌝ }
     ensures { λ r. ⌜ r ≡ length (replaced (now (s .entry))) ⌝ }
 {
-    unicode::replaced_len(s)
+    replace::replaced_len(s)
 }
 
 #[no_mangle]
@@ -59,7 +59,7 @@ pub extern "C" fn leaves_put_replaced(out: &mut [u8], s: &[u8]) -> usize
     ensures len { λ r. ⌜ r ≡ 0 + length (replaced (now (s .entry))) ⌝ }
     ensures bytes { λ _. ⌜ now (out .exit) ≡ pasted 0 (replaced (now (s .entry))) (now (out .entry)) ⌝ }
 {
-    unicode::put_replaced(out, 0, s)
+    replace::put_replaced(out, 0, s)
 }
 
 #[no_mangle]

@@ -5,11 +5,11 @@ use mathlib.Core.Bool.{true, false, false≢true}
 use mathlib.Core.List.{[], _∷_}
 use mathlib.Core.Logic.{⊎-elim}
 use native.Mathlib.Omega.{arith}
-use lib.ListN.{length, take, drop, length-drop}
-use lib.Seq.{take-all, drop-drop}
+use lib.ListN.{length, take, drop}
+use lib.Seq.{drop-drop}
 use Rattle.format.specs.Bytes.{Bytes, CRLF, CRLFCRLF, occurs, pieces, split}
 use Rattle.format.specs.Reading.{separator, sections, lineEnd, lines}
-use Rattle.format.proofs.Lists.{bcase}
+use Rattle.format.proofs.Lists.{bcase, rest-is}
 use Rattle.sections.specs.declared.cuts.Piece.{Piece}
 use Rattle.sections.specs.Place.{place}
 use Rattle.sections.specs.Cuts.{cutOf, separatorFor, lineEndFor}
@@ -73,10 +73,6 @@ cut-within p t = ⊎-elim (λ h. rw h (place-le p t)) (λ h. rw h (omega arith))
 pub last-whole : (p t : Bytes) (r : Piece) → r ≡ cutOf p t → r .last ≡ true → r .at ≡ length t
 unfolding cutOf
 last-whole p t r e h = ap (λ (x : Piece). x .at) e ∙ rw (last-clear p t r e h) refl
-
--- what `&text[at..]` is
-pub rest-is : (t : Bytes) (at : ℕ) → take (length t - at) (drop at t) ≡ drop at t
-rest-is t at = take-all (length t - at) (drop at t) (rw (length-drop at t) (omega arith))
 
 -- the same of what is left of a text from a place on
 module _ (p t : Bytes) (at : ℕ) (r : Piece) (e : r ≡ cutOf p (take (length t - at) (drop at t))) where

@@ -10,12 +10,12 @@ use lib.Seq.{length-take-le}
 use Rattle.format.specs.Bytes.{Bytes, pieces, split}
 use Rattle.format.specs.Refusals.{tooFewSections, accepted, refused}
 use Rattle.format.specs.Reading.{bodyOf, partsOf}
-use Rattle.format.proofs.Lists.{bcase}
+use Rattle.format.proofs.Lists.{bcase, rest-is}
 use Rattle.sections.specs.declared.cuts.Piece.{Piece}
 use Rattle.sections.specs.declared.cuts.Places.{Places}
 use Rattle.sections.specs.declared.cuts.Places.the-variants.{Few, Four}
 use Rattle.sections.specs.Cuts.{cutOf, separatorFor, lineEndFor, placed, placesOf}
-use Rattle.sections.proofs.Cutting.{More, cut-more, cut-last, rest-is, rest-more}
+use Rattle.sections.proofs.Cutting.{More, cut-more, cut-last, rest-more}
 
 pub separator-long : (crlf : Bool) → 0 < length (separatorFor crlf)
 separator-long true = omega arith

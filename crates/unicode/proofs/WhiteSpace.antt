@@ -17,8 +17,8 @@ use Rattle.format.proofs.Lists.{bcase, and-left, and-right, all-head, all-tail}
 use Rattle.format.proofs.Characters.Table.{within-intro, within-below}
 use Rattle.format.proofs.Characters.Chars.{chars-whole, ascii-whole, whole-single}
 use Rattle.format.proofs.Characters.Shapes.{Shape, one, two, three, four, shape}
-use Rattle.unicode.specs.Lengths.{subpartLen, charLen}
-use Rattle.unicode.proofs.Ends.{subpart-chars, subpart-inside, char-whole}
+use Rattle.characters.specs.Lengths.{subpartLen, charLen}
+use Rattle.characters.proofs.Ends.{subpart-chars, subpart-inside, char-whole}
 
 -- a list by its elements
 pub list-zero : (g : Bytes) → length g ≡ 0 → g ≡ []

@@ -29,7 +29,7 @@ whole b t h = go (trailOf b) refl h
     go none e f = absurd (false≢true f)
     go (some rs) e f = record { ranges = rs; trails = e; fitting = f }
 
-trailing-le : (b : ℕ) (t : Bytes) → trailing b t ≤ length t
+pub trailing-le : (b : ℕ) (t : Bytes) → trailing b t ≤ length t
 trailing-le b t = go (trailOf b)
   where
     go : (o : Option (List Range)) → matchedSome o t ≤ length t
@@ -94,6 +94,10 @@ chars-flat gs h = ap chars (sym (append-nil (flat gs))) ∙ chars-flat-append gs
 pub utf8-flat : (gs : List Bytes) → all wellFormed gs ≡ true → isUtf8 (flat gs) ≡ true
 unfolding isUtf8
 utf8-flat gs h = rw (chars-flat gs h) h
+
+pub utf8-nil : isUtf8 [] ≡ true
+unfolding isUtf8 all
+utf8-nil = rw chars-nil refl
 
 -- a well-formed character is a UTF-8 text
 pub utf8-whole : (g : Bytes) → wellFormed g ≡ true → isUtf8 g ≡ true

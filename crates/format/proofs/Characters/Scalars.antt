@@ -6,17 +6,13 @@ use mathlib.Core.Bool.{true}
 use mathlib.Core.Logic.{_⊎_, inl, inr, ⊎-elim, _↔_}
 use mathlib.Core.List.{List, [], _∷_}
 use native.Mathlib.Omega.{arith}
-use lib.Dec.{ltb}
-use borrow.Author.Tests.{ltb-true, ltb-false, lt-ltb, le-ltb}
+use borrow.Author.Tests.{lt-ltb, le-ltb}
 use Rattle.format.specs.Bytes.{Bytes, all, texts}
 use Rattle.format.specs.Characters.{Range, _to_, within, fits, wellFormed, chars, isUtf8, flat, codePoint, isScalar, encoding}
-use Rattle.format.proofs.Lists.{bcase, all-head, all-tail, all-cons, all-map}
+use Rattle.format.proofs.Lists.{bcase, below, all-head, all-tail, all-cons, all-map}
 use Rattle.format.proofs.Characters.Table.{within-low, within-high, within-intro, rowOf, whole-row}
 use Rattle.format.proofs.Characters.Chars.{flat-chars, ascii-whole, utf8-whole, utf8-texts}
 use Rattle.format.proofs.Characters.Shapes.{Between, Shape, one, two, three, four, shape, value-two, value-three, value-four, scalar-low, scalar-high}
-
-below : (n k : ℕ) → (n < k) ⊎ (k ≤ n)
-below n k = ⊎-elim (λ t. inl (ltb-true n k t)) (λ f. inr (ltb-false n k f)) (bcase (ltb n k))
 
 -- the encoding by the size of the number
 pub encoding-one : (n : ℕ) → n < 0x80 → encoding n ≡ n ∷ []

@@ -12,7 +12,7 @@ use lib.ListN.{length, getD}
 use borrow.Author.Tests.{leb-true, le-leb, lt-leb, ltb-true}
 use Rattle.format.specs.Bytes.{Bytes, if_then_else_, all}
 use Rattle.format.specs.Characters.{Range, _to_, within, Row, row, table-3-7, trailIn, trailOf, fits, wellFormed, matched}
-use Rattle.format.proofs.Lists.{bcase, and-left, and-right, and-intro, all-head, all-tail}
+use Rattle.format.proofs.Lists.{bcase, and-left, and-right, and-intro, all-head, all-tail, all-getD}
 
 pub within-low : (n : ℕ) (r : Range) → within n r ≡ true → r .first ≤ n
 within-low n r h = leb-true (r .first) n (and-left (leb (r .first) n) (leb n (r .last)) h)
@@ -143,11 +143,6 @@ rising (r ∷ rows) = all (λ q. ltb (r .lead .last) (q .lead .first)) rows && r
 abbrev pub noRow : Row
 noRow = row (0 to 0) []
 
-all-at : (p : Row → Bool) (rows : List Row) (k : ℕ) → all p rows ≡ true → k < length rows → p (getD rows k noRow) ≡ true
-all-at p [] k h i = absurd (omega arith)
-all-at p (r ∷ rows) zero h i = all-head p r rows h
-all-at p (r ∷ rows) (suc k) h i = all-at p rows k (all-tail p r rows h) (omega arith)
-
 -- where lead ranges rise, a lead byte within that of row k picks row k
 hit : (rows : List Row) (k b : ℕ) → rising rows ≡ true → k < length rows → within b (getD rows k noRow .lead) ≡ true → trailIn rows b ≡ some (getD rows k noRow .trail)
 unfolding trailIn rising
@@ -155,7 +150,7 @@ hit [] k b h i w = absurd (omega arith)
 hit (r ∷ rows) zero b h i w = rw w refl
 hit (r ∷ rows) (suc k) b h i w =
     let below : Row → Bool = λ q. ltb (r .lead .last) (q .lead .first) in
-    let lt = ltb-true (r .lead .last) (getD rows k noRow .lead .first) (all-at below rows k (and-left (all below rows) (rising rows) h) (omega arith)) in
+    let lt = ltb-true (r .lead .last) (getD rows k noRow .lead .first) (all-getD below rows noRow k (and-left (all below rows) (rising rows) h) (omega arith)) in
     rw (within-above b (r .lead) (omega (arith, within-low b (getD rows k noRow .lead) w))) (hit rows k b (and-right (all below rows) (rising rows) h) (omega arith) w)
 
 -- row k of the table, from 0

@@ -75,7 +75,7 @@ module _ (p : Bytes → Bool) where
   back-shorter [] = omega arith
   back-shorter (g ∷ gs) = omega (arith, keep-shorter g (dropBack p gs), back-shorter gs, length-append g (flat gs))
 
-  back-clear : (g : Bytes) (gs : List Bytes) → p (lastOf g gs) ≡ false → dropBack p (g ∷ gs) ≡ g ∷ gs
+  pub back-clear : (g : Bytes) (gs : List Bytes) → p (lastOf g gs) ≡ false → dropBack p (g ∷ gs) ≡ g ∷ gs
   unfolding dropBack lastOf
   back-clear g [] h = rw h refl
   back-clear g (x ∷ xs) h = rw (back-clear x xs h) refl

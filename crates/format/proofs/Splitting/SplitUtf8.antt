@@ -10,12 +10,8 @@ use borrow.Author.Tests.{ltb-true}
 use Rattle.format.specs.Bytes.{Bytes, all, texts, has, upTo, past, pieces, split, join}
 use Rattle.format.specs.Characters.{isUtf8}
 use Rattle.format.proofs.Lists.{bcase, and-intro, all-head, all-tail}
-use Rattle.format.proofs.Characters.Chars.{utf8-append, utf8-cut, utf8-ascii-text}
+use Rattle.format.proofs.Characters.Chars.{utf8-nil, utf8-append, utf8-cut, utf8-ascii-text}
 use Rattle.format.proofs.Splitting.Split.{join-split, upTo-past, upTo-none, past-none, join-one, join-cons}
-
-utf8-nil : isUtf8 [] ≡ true
-unfolding all
-utf8-nil = utf8-ascii-text [] refl
 
 -- behind an ASCII text that follows another, and before it, is UTF-8
 pub utf8-around : (s : Bytes) (c : ℕ) (sep t : Bytes) → all (λ b. ltb b 128) (c ∷ sep) ≡ true → isUtf8 (s ++ ((c ∷ sep) ++ t)) ≡ true

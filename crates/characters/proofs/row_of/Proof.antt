@@ -1,0 +1,69 @@
+-- `characters::row_of` meets its contract. The rows passed do not hold the byte, so the rows left pick what the table picks
+-- (the invariant); a hit is row-hit, a miss row-miss.
+-- Assumes nothing.
+use mathlib.Core.Path.{_≡_, refl, sym, _∙_}
+use Prim.Native.Nat.{_-_, _≤_}
+use native.Mathlib.Omega.{arith}
+use lib.ListN.{drop}
+use borrow.Author.Needs.{needs}
+use Rattle.format.specs.Characters.{table-3-7, trailIn, trailOf}
+use Rattle.characters.proofs.Coding.{row-lead, row-hit, row-miss, row-none}
+use Rattle.characters.proofs.row_of.Statement.{statement}
+use Rattle.characters.proofs.row_of.Tie as tie
+
+abbrev Inv-loop : tie.InvT-loop
+Inv-loop rows b i₀ i = (i ≤ 9) × (trailOf b ≡ trailIn (drop i table-3-7) b)
+
+abbrev μ-loop : tie.MeasureT-loop
+μ-loop rows b i₀ i = 9 - i
+
+loop-holds : tie.Need-loop-holds Inv-loop μ-loop
+loop-holds c = (omega arith, refl)
+
+mul-row : tie.Need-mul-row Inv-loop μ-loop
+mul-row c = search needs
+
+element-copy-out-row : tie.Need-element-copy-out-row Inv-loop μ-loop
+element-copy-out-row c = search needs
+
+leads-requires : tie.Need-leads-requires Inv-loop μ-loop
+leads-requires c κs = search needs
+
+returns : tie.Need-returns Inv-loop μ-loop
+returns c =
+    c .before .before .before .before .loop .inv .1
+    ∙ row-hit (c .before .before .before .before .loop .i) (c .before .before .before .before .before .args .b) (omega arith) (sym (row-lead (c .before .before .before .before .before .args .rows .now) (c .before .before .before .before .loop .i) (c .before .before .before .before .before .args .b) (c .before .before .before .before .before .pre) (omega arith)) ∙ sym (c .before .leads .ensures) ∙ c .if1 .taken)
+
+add-i : tie.Need-add-i Inv-loop μ-loop
+add-i c = search needs
+
+loop-less : tie.Need-loop-less Inv-loop μ-loop
+loop-less c = search needs
+
+loop-again : tie.Need-loop-again Inv-loop μ-loop
+loop-again c = (
+  omega arith,
+  c .before .before .before .before .loop .inv .1
+      ∙ row-miss (c .before .before .before .before .loop .i) (c .before .before .before .before .before .args .b) (omega arith) (sym (row-lead (c .before .before .before .before .before .args .rows .now) (c .before .before .before .before .loop .i) (c .before .before .before .before .before .args .b) (c .before .before .before .before .before .pre) (omega arith)) ∙ sym (c .before .leads .ensures) ∙ c .if1 .left),
+)
+
+returns-2 : tie.Need-returns-2 Inv-loop μ-loop
+returns-2 c =
+    let e : c .before .loop .i ≡ 9 = omega arith in
+    c .before .loop .inv .1 ∙ rw e (row-none (c .before .before .args .b))
+
+pub row-of-spec : {M : Type 1} → statement M
+row-of-spec =
+    tie.close
+    (tie.spec
+    Inv-loop
+    μ-loop
+    loop-holds
+    mul-row
+    element-copy-out-row
+    leads-requires
+    returns
+    add-i
+    loop-less
+    loop-again
+    returns-2)

@@ -1,0 +1,82 @@
+-- `soundness::faults` meets its contract. The invariant: where no fault was found, each byte passed is sound.
+-- Assumes nothing.
+use mathlib.Core.Path.{_≡_}
+use mathlib.Core.Logic.{⊎-elim}
+use Prim.Native.Nat.{ℕ, _-_, _≤_, _<_}
+use native.Mathlib.Omega.{arith}
+use borrow.Author.Needs.{needs}
+use Rattle.soundness.proofs.Sound.{sound-more}
+use Rattle.soundness.specs.Sound.{SoundAt}
+use Rattle.soundness.proofs.faults.Statement.{statement}
+use Rattle.soundness.proofs.faults.Tie as tie
+
+abbrev Inv-loop : tie.InvT-loop
+Inv-loop part worst₀ k₀ worst k = (k ≤ 64) × (worst ≡ 0 → (i : ℕ) → i < k → SoundAt part i)
+
+abbrev μ-loop : tie.MeasureT-loop
+μ-loop part worst₀ k₀ worst k = 64 - k
+
+loop-holds : tie.Need-loop-holds Inv-loop μ-loop
+loop-holds c = (omega arith, λ z k h. absurd (omega arith))
+
+shared-slice-read-fault : tie.Need-shared-slice-read-fault Inv-loop μ-loop
+shared-slice-read-fault c = search needs
+
+add-fault : tie.Need-add-fault Inv-loop μ-loop
+add-fault c = search needs
+
+shared-slice-read-fault-2 : tie.Need-shared-slice-read-fault-2 Inv-loop μ-loop
+shared-slice-read-fault-2 c = search needs
+
+add-fault-2 : tie.Need-add-fault-2 Inv-loop μ-loop
+add-fault-2 c = search needs
+
+shared-slice-read-fault-3 : tie.Need-shared-slice-read-fault-3 Inv-loop μ-loop
+shared-slice-read-fault-3 c = search needs
+
+add-fault-3 : tie.Need-add-fault-3 Inv-loop μ-loop
+add-fault-3 c = search needs
+
+shared-slice-read-fault-4 : tie.Need-shared-slice-read-fault-4 Inv-loop μ-loop
+shared-slice-read-fault-4 c = search needs
+
+fault-requires : tie.Need-fault-requires Inv-loop μ-loop
+fault-requires c κs = search needs
+
+add-k : tie.Need-add-k Inv-loop μ-loop
+add-k c = search needs
+
+loop-less : tie.Need-loop-less Inv-loop μ-loop
+loop-less c = search needs
+
+loop-again : tie.Need-loop-again Inv-loop μ-loop
+loop-again c = (
+  omega arith,
+  λ z.
+      sound-more (c .before .before .before .before .before .before .before .before .before .args .part .now) (c .before .before .before .before .before .before .before .loop .k)
+      (c .before .before .before .before .before .before .before .loop .inv .1 (⊎-elim (λ w. omega arith) (λ w. omega arith) (c .if1 .came)))
+      (c .before .fault .ensures (⊎-elim (λ w. omega arith) (λ w. omega arith) (c .if1 .came))),
+)
+
+returns : tie.Need-returns Inv-loop μ-loop
+returns c = λ z k h. c .before .loop .inv .1 z k (omega arith)
+
+pub faults-spec : {M : Type 1} → statement M
+faults-spec =
+    tie.close
+    (tie.spec
+    Inv-loop
+    μ-loop
+    loop-holds
+    shared-slice-read-fault
+    add-fault
+    shared-slice-read-fault-2
+    add-fault-2
+    shared-slice-read-fault-3
+    add-fault-3
+    shared-slice-read-fault-4
+    fault-requires
+    add-k
+    loop-less
+    loop-again
+    returns)

@@ -1,0 +1,98 @@
+// Whether the bytes of a block may stand where they do, each judged by the three bytes before it, without a branch that ends the
+// loop early, so that many are judged at a time.
+ghost use mathlib.Core.Path.{_≡_};
+ghost use Prim.Native.Nat.{ℕ, _≤_, _<_};
+ghost use mathlib.Core.Logic.{_⊎_};
+ghost use lib.ListN.{length};
+ghost use Rattle.soundness.specs.Sound.{Trailing, Owed, Sound, SoundAt};
+
+// 1 where b is a trailing byte, else 0.
+fn trails(b: u8) -> u8
+    ensures { λ r. ⌜ ((r ≡ 0 → (b < 0x80) ⊎ (0xC0 ≤ b)) × (r ≡ 1 → Trailing b)) ⌝ }
+{
+    if b < 0x80 {
+        return 0;
+    }
+    if 0xBF < b {
+        return 0;
+    }
+    1
+}
+
+// 1 where a trailing byte is to follow p1, with p2 before p1 and p3 before p2, else 0.
+fn owed(p3: u8, p2: u8, p1: u8) -> u8
+    ensures { λ r. ⌜ Owed p3 p2 p1 r ⌝ }
+{
+    if 0xC2 <= p1 {
+        return 1;
+    }
+    if 0xE0 <= p2 {
+        return 1;
+    }
+    if 0xF0 <= p3 {
+        return 1;
+    }
+    0
+}
+
+// The least and the greatest byte that may follow p1.
+fn least_behind(p1: u8) -> u8
+    ensures { λ r. ⌜ ((p1 ≡ 0xE0 → r ≡ 0xA0) × (p1 ≡ 0xF0 → r ≡ 0x90)) ⌝ }
+{
+    if p1 == 0xE0 {
+        return 0xA0;
+    }
+    if p1 == 0xF0 {
+        return 0x90;
+    }
+    0
+}
+
+fn greatest_behind(p1: u8) -> u8
+    ensures { λ r. ⌜ ((p1 ≡ 0xED → r ≡ 0x9F) × (p1 ≡ 0xF4 → r ≡ 0x8F) × (r ≤ 0xF4)) ⌝ }
+{
+    if p1 == 0xED {
+        return 0x9F;
+    }
+    if p1 == 0xF4 {
+        return 0x8F;
+    }
+    0xF4
+}
+
+// 0 where b may stand behind the three bytes before it, else 1.
+fn fault(p3: u8, p2: u8, p1: u8, b: u8) -> u8
+    ensures { λ r. ⌜ (r ≡ 0 → Sound p3 p2 p1 b) ⌝ }
+{
+    if trails(b) != owed(p3, p2, p1) {
+        return 1;
+    }
+    if b < least_behind(p1) {
+        return 1;
+    }
+    if greatest_behind(p1) < b {
+        return 1;
+    }
+    if b == 0xC0 {
+        return 1;
+    }
+    if b == 0xC1 {
+        return 1;
+    }
+    0
+}
+
+// 0 where each byte of a block may stand behind the three before it; the first three only stand before.
+pub fn faults(part: &[u8]) -> u8
+    requires { ⌜ length (now part) ≡ 67 ⌝ }
+    ensures { λ r. ⌜ (r ≡ 0 → (k : ℕ) → k < 64 → SoundAt (now (part .entry)) k) ⌝ }
+{
+    let mut worst = 0u8;
+    for k in 0..64 {
+        let f = fault(part[k], part[k + 1], part[k + 2], part[k + 3]);
+        if worst < f {
+            worst = f;
+        }
+    }
+    worst
+}

@@ -1,0 +1,2 @@
+pub mod LastChar
+pub mod Trimming

@@ -1,0 +1,55 @@
+-- `trimming::back_end` meets its contract. The invariant: dropping white space at the back gives the same up to the place
+-- reached.
+-- Assumes nothing.
+use mathlib.Core.Path.{_≡_, sym, ap, _∙_}
+use mathlib.Core.List.{List}
+use Prim.Native.Nat.{ℕ, _≤_}
+use native.Mathlib.Omega.{arith}
+use lib.ListN.{length, take}
+use borrow.Author.Needs.{needs}
+use lib.Seq.{take-length, length-take-le}
+use Rattle.format.specs.Characters.{chars, isWhite, dropBack, flat}
+use Rattle.trimming.proofs.Trimming.{back-inside, back-on, back-stop}
+use Rattle.trimming.proofs.back_end.Statement.{statement}
+use Rattle.trimming.proofs.back_end.Tie as tie
+
+abbrev Inv-loop : tie.InvT-loop
+Inv-loop s end₀ end = (end ≤ length s) × (dropBack isWhite (chars s) ≡ dropBack isWhite (chars (take end s)))
+
+abbrev μ-loop : tie.MeasureT-loop
+μ-loop s end₀ end = end
+
+loop-holds : tie.Need-loop-holds Inv-loop μ-loop
+loop-holds c = (omega arith, ap (λ (x : List ℕ). dropBack isWhite (chars x)) (sym (take-length (c .before .args .s .now))))
+
+slice-aggregate-white-back : tie.Need-slice-aggregate-white-back Inv-loop μ-loop
+slice-aggregate-white-back c = sym (length-take-le (c .before .loop .end) (c .before .before .before .args .s .now) (c .before .loop .inv .0))
+
+white-back-requires : tie.Need-white-back-requires Inv-loop μ-loop
+white-back-requires c κs = search needs
+
+returns : tie.Need-returns Inv-loop μ-loop
+returns c = (c .before .before .before .loop .inv .0, ap flat (c .before .before .before .loop .inv .1) ∙ back-stop (c .before .before .before .before .before .args .s .now) (c .before .before .before .loop .end) (c .before .white-back .result) (c .before .before .before .loop .inv .0) (c .before .white-back .ensures) (c .if1 .taken))
+
+sub-end : tie.Need-sub-end Inv-loop μ-loop
+sub-end c = omega (arith, back-inside (c .before .before .before .before .before .args .s .now) (c .before .before .before .loop .end) (c .before .white-back .result) (c .before .before .before .loop .inv .0) (c .before .white-back .ensures))
+
+loop-less : tie.Need-loop-less Inv-loop μ-loop
+loop-less c = omega (arith, back-inside (c .before .before .before .before .before .args .s .now) (c .before .before .before .loop .end) (c .before .white-back .result) (c .before .before .before .loop .inv .0) (c .before .white-back .ensures))
+
+loop-again : tie.Need-loop-again Inv-loop μ-loop
+loop-again c = (omega (arith, c .before .before .before .loop .inv .0), c .before .before .before .loop .inv .1 ∙ back-on (c .before .before .before .before .before .args .s .now) (c .before .before .before .loop .end) (c .before .white-back .result) (c .before .before .before .loop .inv .0) (c .before .white-back .ensures) (c .if1 .left))
+
+pub back-end-spec : {M : Type 1} → statement M
+back-end-spec =
+    tie.close
+    (tie.spec
+    Inv-loop
+    μ-loop
+    loop-holds
+    slice-aggregate-white-back
+    white-back-requires
+    returns
+    sub-end
+    loop-less
+    loop-again)

@@ -1,0 +1,67 @@
+-- `unicode::is_listed` meets its contract. The invariant: the number is in the table exactly when it is in what is left
+-- of it.
+-- Assumes nothing.
+use mathlib.Core.Path.{_≡_, refl, sym, ap, _∙_}
+use mathlib.Core.List.{List}
+use Prim.Native.Nat.{ℕ, _-_, _≤_}
+use native.Mathlib.Omega.{arith}
+use lib.ListN.{drop, getD}
+use borrow.Author.Needs.{needs}
+use lib.Dec.{eqb}
+use Rattle.format.specs.Bytes.{any}
+use Rattle.format.specs.Characters.{whiteSpace}
+use Rattle.unicode.proofs.WhiteSpace.{any-hit, any-miss, any-end}
+use Rattle.unicode.proofs.is_listed.Statement.{statement}
+use Rattle.unicode.proofs.is_listed.Tie as tie
+
+abbrev Inv-loop : tie.InvT-loop
+Inv-loop table n i₀ i = (i ≤ 25) × (any (eqb n) whiteSpace ≡ any (eqb n) (drop i whiteSpace))
+
+abbrev μ-loop : tie.MeasureT-loop
+μ-loop table n i₀ i = 25 - i
+
+loop-holds : tie.Need-loop-holds Inv-loop μ-loop
+loop-holds c = (omega arith, refl)
+
+mul-if1 : tie.Need-mul-if1 Inv-loop μ-loop
+mul-if1 c = search needs
+
+element-copy-out-if1 : tie.Need-element-copy-out-if1 Inv-loop μ-loop
+element-copy-out-if1 c = search needs
+
+returns : tie.Need-returns Inv-loop μ-loop
+returns c =
+    let z = c .before .before .before .before in
+    sym (c .before .before .before .loop .inv .1 ∙ any-hit (z .args .n) whiteSpace (c .before .before .before .loop .i) (omega arith) (c .if1 .taken ∙ ap (λ (xs : List ℕ). getD xs (c .before .before .before .loop .i) 0) (z .pre)))
+
+add-i : tie.Need-add-i Inv-loop μ-loop
+add-i c = search needs
+
+loop-less : tie.Need-loop-less Inv-loop μ-loop
+loop-less c = search needs
+
+loop-again : tie.Need-loop-again Inv-loop μ-loop
+loop-again c =
+    let z = c .before .before .before .before in (
+      omega arith,
+      c .before .before .before .loop .inv .1
+          ∙ any-miss (z .args .n) whiteSpace (c .before .before .before .loop .i) (omega arith) (λ e. c .if1 .left (e ∙ sym (ap (λ (xs : List ℕ). getD xs (c .before .before .before .loop .i) 0) (z .pre)))),
+    )
+
+returns-2 : tie.Need-returns-2 Inv-loop μ-loop
+returns-2 c = sym (c .before .loop .inv .1 ∙ any-end (c .before .before .args .n) whiteSpace (c .before .loop .i) (omega arith))
+
+pub is-listed-spec : {M : Type 1} → statement M
+is-listed-spec =
+    tie.close
+    (tie.spec
+    Inv-loop
+    μ-loop
+    loop-holds
+    mul-if1
+    element-copy-out-if1
+    returns
+    add-i
+    loop-less
+    loop-again
+    returns-2)

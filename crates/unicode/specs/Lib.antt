@@ -1,4 +1,0 @@
-pub mod Coded
-pub mod Lengths
-pub mod Blocks
-pub mod Trimming

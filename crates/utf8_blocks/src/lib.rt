@@ -1,0 +1,96 @@
+// UTF-8 by blocks: 64 bytes at a time are passed over where they are ASCII, or where each is sound behind the three before it. A
+// block that fails is left to the caller, who goes on character by character.
+ghost use mathlib.Core.Path.{_≡_};
+ghost use Prim.Native.Nat.{_+_, _≤_};
+ghost use mathlib.Core.Bool.{true};
+ghost use lib.Dec.{leb};
+ghost use lib.ListN.{length};
+ghost use Rattle.format.specs.Bytes.{all};
+ghost use Rattle.characters.specs.Lengths.{Passed};
+ghost use Rattle.utf8_blocks.specs.Blocks.{Settled};
+
+// The largest byte of a part, without an early exit, so that the bytes are compared many at a time.
+pub fn largest(part: &[u8]) -> u8
+    ensures { λ r. ⌜ all (λ b. leb b r) (now (part .entry)) ≡ true ⌝ }
+{
+    let mut top = 0u8;
+    for k in 0..part.len() {
+        let b = part[k];
+        if top < b {
+            top = b;
+        }
+    }
+    top
+}
+
+// Whether no character reaches over the place three behind `from`.
+fn is_settled(s: &[u8], from: usize) -> bool
+    requires { ⌜ from + 3 ≤ length (now s) ⌝ }
+    ensures { λ r. ⌜ (r ≡ true → Settled (now (s .entry)) from) ⌝ }
+{
+    if 0xF0 <= s[from] {
+        return false;
+    }
+    if 0xE0 <= s[from + 1] {
+        return false;
+    }
+    s[from + 2] < 0xC2
+}
+
+// Passes over the 64 bytes three behind `from`, but for a character that reaches over their end; over none where one is not sound.
+fn past_sound(s: &[u8], from: usize) -> usize
+    requires { ⌜ (from + 67 ≤ length (now s)) × Settled (now s) from ⌝ }
+    ensures { λ r. ⌜ Passed (now (s .entry)) (from + 3) r ⌝ }
+{
+    let end = from + 67;
+    let part = &s[from..end];
+    if 0 < soundness::faults(part) {
+        return from + 3;
+    }
+    if 0xC2 <= s[from + 66] {
+        return from + 66;
+    }
+    if 0xE0 <= s[from + 65] {
+        return from + 65;
+    }
+    if 0xF0 <= s[from + 64] {
+        return from + 64;
+    }
+    end
+}
+
+// Passes over a block of 64 bytes that are ASCII or sound, or over none.
+fn past_block(s: &[u8], at: usize) -> usize
+    requires { ⌜ at + 64 ≤ length (now s) ⌝ }
+    ensures { λ r. ⌜ Passed (now (s .entry)) at r ⌝ }
+{
+    let end = at + 64;
+    let part = &s[at..end];
+    if largest(part) < 0x80 {
+        return end;
+    }
+    if at < 3 {
+        return at;
+    }
+    let from = at - 3;
+    if is_settled(s, from) {
+        return past_sound(s, from);
+    }
+    at
+}
+
+// Passes over blocks as far as they go.
+pub fn past_blocks(s: &[u8], from: usize) -> usize
+    requires { ⌜ from ≤ length (now s) ⌝ }
+    ensures { λ r. ⌜ Passed (now (s .entry)) from r ⌝ }
+{
+    let mut at = from;
+    while 64 <= s.len() - at {
+        let next = past_block(s, at);
+        if next == at {
+            return at;
+        }
+        at = next;
+    }
+    at
+}
