@@ -45,12 +45,21 @@ ends-ill u h e =
     (bcase (wellFormed (take (subpartLen u) u)))
 
 -- From the place i on UTF-8 ends at the place e.
-module _ (s : Bytes) (i e : ℕ) (h : i ≤ length s) (q : e ≡ utf8End s i) where
+pub record Run (s : Bytes) (i e : ℕ) : Type 0 where
+  pub starts : i ≤ length s
+  pub ends : e ≡ utf8End s i
+
+-- At the place e an ill-formed subpart of n bytes stands.
+pub record Ill (s : Bytes) (e n : ℕ) : Type 0 where
+  pub more : e ≡ length s → ⊥
+  pub subpart : n ≡ subpartLen (drop e s)
+
+module _ {s : Bytes} {i e : ℕ} (r : Run s i e) where
   pub run-inside : (i ≤ e) × (e ≤ length s)
-  run-inside = rw q (end-inside s i h)
+  run-inside = rw (r .ends) (end-inside s i (r .starts))
 
   run-utf8 : isUtf8 (take (e - i) (drop i s)) ≡ true
-  run-utf8 = rw q (end-utf8 s i)
+  run-utf8 = rw (r .ends) (end-utf8 s i)
 
   abbrev i-to-e : i + (e - i) ≡ e
   i-to-e = omega (arith, run-inside .0)
@@ -72,28 +81,31 @@ module _ (s : Bytes) (i e : ℕ) (h : i ≤ length s) (q : e ≡ utf8End s i) wh
   pub run-last : e ≡ length s → replaced (drop e s) ≡ []
   run-last l = ap replaced (drop-of-length-le s {i = e} (omega arith)) ∙ replaced-nil
 
+  ends-here : wholeLen (chars (drop e s)) ≡ 0
+  unfolding utf8End
+  ends-here =
+      let f : utf8End s i ≡ utf8End s e = end-past s i (e - i) (omega (arith, run-inside .0, run-inside .1)) run-utf8 ∙ ap (utf8End s) i-to-e in
+      omega (arith, f, r .ends)
+
   -- or a subpart stands behind it
-  module _ (n : ℕ) (l : e ≡ length s → ⊥) (m : n ≡ subpartLen (drop e s)) where
+  module _ {n : ℕ} (l : Ill s e n) where
     rest-some : 0 < length (drop e s)
-    rest-some = omega (arith, l, length-drop e s, run-inside .1)
+    rest-some = omega (arith, l .more, length-drop e s, run-inside .1)
 
     pub ill-inside : (0 < n) × (e + n ≤ length s)
-    ill-inside = (omega (arith, subpart-some (drop e s) rest-some), omega (arith, subpart-inside (drop e s), length-drop e s, run-inside .1))
-
-    ends-here : wholeLen (chars (drop e s)) ≡ 0
-    unfolding utf8End
-    ends-here =
-        let f : utf8End s i ≡ utf8End s e = end-past s i (e - i) (omega (arith, run-inside .0, run-inside .1)) run-utf8 ∙ ap (utf8End s) i-to-e in
-        omega (arith, f, q)
+    ill-inside = (
+      omega (arith, l .subpart, subpart-some (drop e s) rest-some),
+      omega (arith, l .subpart, subpart-inside (drop e s), length-drop e s, run-inside .1),
+    )
 
     pub ill-replaced : replaced (drop e s) ≡ replacement ++ replaced (drop (e + n) s)
     ill-replaced =
         replaced-ill (drop e s) rest-some (ends-ill (drop e s) rest-some ends-here)
-        ∙ ap (λ (k : ℕ). replacement ++ replaced (drop k (drop e s))) (sym m)
+        ∙ ap (λ (k : ℕ). replacement ++ replaced (drop k (drop e s))) (sym (l .subpart))
         ∙ ap (λ (x : Bytes). replacement ++ replaced x) (drop-drop n e s)
 
     pub ill-count : length (replaced (drop e s)) ≡ 3 + length (replaced (drop (e + n) s))
     ill-count = ap length ill-replaced ∙ length-append replacement (replaced (drop (e + n) s))
 
   pub ill-room : (e ≡ length s → ⊥) → 3 ≤ length (replaced (drop e s))
-  ill-room l = omega (arith, ill-count (subpartLen (drop e s)) l refl)
+  ill-room l = omega (arith, ill-count (record { more = l; subpart = refl }))

@@ -31,8 +31,10 @@ leads-requires c κs = search needs
 
 returns : tie.Need-returns Inv-loop μ-loop
 returns c =
-    c .before .before .before .before .loop .inv .1
-    ∙ row-hit (c .before .before .before .before .loop .i) (c .before .before .before .before .before .args .b) (omega arith) (sym (row-lead (c .before .before .before .before .before .args .rows .now) (c .before .before .before .before .loop .i) (c .before .before .before .before .before .args .b) (c .before .before .before .before .before .pre) (omega arith)) ∙ sym (c .before .leads .ensures) ∙ c .if1 .taken)
+    let z = c .before .before .before .before .before in
+    let loop = c .before .before .before .before .loop in
+    loop .inv .1
+    ∙ row-hit (loop .i) (z .args .b) (omega arith) (sym (row-lead (z .args .rows .now) (loop .i) (z .args .b) (z .pre) (omega arith)) ∙ sym (c .before .leads .ensures) ∙ c .if1 .taken)
 
 add-i : tie.Need-add-i Inv-loop μ-loop
 add-i c = search needs
@@ -41,11 +43,13 @@ loop-less : tie.Need-loop-less Inv-loop μ-loop
 loop-less c = search needs
 
 loop-again : tie.Need-loop-again Inv-loop μ-loop
-loop-again c = (
-  omega arith,
-  c .before .before .before .before .loop .inv .1
-      ∙ row-miss (c .before .before .before .before .loop .i) (c .before .before .before .before .before .args .b) (omega arith) (sym (row-lead (c .before .before .before .before .before .args .rows .now) (c .before .before .before .before .loop .i) (c .before .before .before .before .before .args .b) (c .before .before .before .before .before .pre) (omega arith)) ∙ sym (c .before .leads .ensures) ∙ c .if1 .left),
-)
+loop-again c =
+    let z = c .before .before .before .before .before in
+    let loop = c .before .before .before .before .loop in (
+      omega arith,
+      loop .inv .1
+          ∙ row-miss (loop .i) (z .args .b) (omega arith) (sym (row-lead (z .args .rows .now) (loop .i) (z .args .b) (z .pre) (omega arith)) ∙ sym (c .before .leads .ensures) ∙ c .if1 .left),
+    )
 
 returns-2 : tie.Need-returns-2 Inv-loop μ-loop
 returns-2 c =

@@ -25,7 +25,10 @@ sub-if1 : tie.Need-sub-if1 Inv-loop μ-loop
 sub-if1 c = search needs
 
 returns : tie.Need-returns Inv-loop μ-loop
-returns c = (omega arith, omega (arith, c .before .before .loop .inv .1, ends-end (drop (c .before .before .loop .k * 2 + 2) (c .before .before .before .args .t1)) (c .before .before .before .args .s .now) (c .before .before .before .args .at + c .before .before .loop .k) (omega arith)))
+returns c =
+    let z = c .before .before .before in
+    let loop = c .before .before .loop in
+    (omega arith, omega (arith, loop .inv .1, ends-end (drop (loop .k * 2 + 2) (z .args .t1)) (z .args .s .now) (z .args .at + loop .k) (omega arith)))
 
 add-b : tie.Need-add-b Inv-loop μ-loop
 add-b c = search needs
@@ -43,7 +46,10 @@ array-read-if2 : tie.Need-array-read-if2 Inv-loop μ-loop
 array-read-if2 c = search needs
 
 returns-2 : tie.Need-returns-2 Inv-loop μ-loop
-returns-2 c = (omega arith, omega (arith, c .before .before .before .before .loop .inv .1, ends-below (c .before .before .before .before .before .args .t1) (c .before .before .before .before .loop .k * 2 + 2) (c .before .before .before .before .before .args .s .now) (c .before .before .before .before .before .args .at + c .before .before .before .before .loop .k) (omega arith) (omega arith) (omega arith)))
+returns-2 c =
+    let z = c .before .before .before .before .before in
+    let loop = c .before .before .before .before .loop in
+    (omega arith, omega (arith, loop .inv .1, ends-below (z .args .t1) (loop .k * 2 + 2) (z .args .s .now) (z .args .at + loop .k) (omega arith) (omega arith) (omega arith)))
 
 mul-if3 : tie.Need-mul-if3 Inv-loop μ-loop
 mul-if3 c = search needs
@@ -55,7 +61,10 @@ array-read-if3 : tie.Need-array-read-if3 Inv-loop μ-loop
 array-read-if3 c = search needs
 
 returns-3 : tie.Need-returns-3 Inv-loop μ-loop
-returns-3 c = (omega arith, omega (arith, c .before .before .before .before .before .loop .inv .1, ends-above (c .before .before .before .before .before .before .args .t1) (c .before .before .before .before .before .loop .k * 2 + 2) (c .before .before .before .before .before .loop .k * 2 + 3) (c .before .before .before .before .before .before .args .s .now) (c .before .before .before .before .before .before .args .at + c .before .before .before .before .before .loop .k) (omega arith) (omega arith) (omega arith) (omega arith)))
+returns-3 c =
+    let z = c .before .before .before .before .before .before in
+    let loop = c .before .before .before .before .before .loop in
+    (omega arith, omega (arith, loop .inv .1, ends-above (z .args .t1) (loop .k * 2 + 2) (loop .k * 2 + 3) (z .args .s .now) (z .args .at + loop .k) (omega arith) (omega arith) (omega arith) (omega arith)))
 
 add-k : tie.Need-add-k Inv-loop μ-loop
 add-k c = search needs
@@ -64,7 +73,10 @@ loop-less : tie.Need-loop-less Inv-loop μ-loop
 loop-less c = search needs
 
 loop-again : tie.Need-loop-again Inv-loop μ-loop
-loop-again c = (omega arith, omega (arith, c .before .before .before .before .before .loop .inv .1, ends-within (c .before .before .before .before .before .before .args .t1) (c .before .before .before .before .before .loop .k * 2 + 2) (c .before .before .before .before .before .loop .k * 2 + 3) ((c .before .before .before .before .before .loop .k + 1) * 2 + 2) (c .before .before .before .before .before .before .args .s .now) (c .before .before .before .before .before .before .args .at + c .before .before .before .before .before .loop .k) (c .before .before .before .before .before .before .args .at + (c .before .before .before .before .before .loop .k + 1)) (omega arith) (omega arith) (omega arith) (omega arith) (omega arith) (omega arith) (omega arith)))
+loop-again c =
+    let z = c .before .before .before .before .before .before in
+    let loop = c .before .before .before .before .before .loop in
+    (omega arith, omega (arith, loop .inv .1, ends-within (z .args .t1) (loop .k * 2 + 2) (loop .k * 2 + 3) ((loop .k + 1) * 2 + 2) (z .args .s .now) (z .args .at + loop .k) (z .args .at + (loop .k + 1)) (omega arith) (omega arith) (omega arith) (omega arith) (omega arith) (omega arith) (omega arith)))
 
 returns-4 : tie.Need-returns-4 Inv-loop μ-loop
 returns-4 c = (

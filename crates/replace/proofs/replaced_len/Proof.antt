@@ -7,7 +7,7 @@ use native.Mathlib.Omega.{arith}
 use lib.ListN.{length, drop}
 use borrow.Author.Needs.{needs}
 use Rattle.format.specs.Characters.{replaced}
-use Rattle.replace.proofs.Replacing.{run-inside, run-count, run-last, ill-inside, ill-count}
+use Rattle.replace.proofs.Replacing.{Run, Ill, run-inside, run-count, run-last, ill-inside, ill-count}
 use Rattle.replace.proofs.replaced_len.Statement.{statement}
 use Rattle.replace.proofs.replaced_len.Tie as tie
 
@@ -23,32 +23,39 @@ loop-holds c = (omega arith, omega arith, omega arith)
 utf8-end-requires : tie.Need-utf8-end-requires Inv-loop μ-loop
 utf8-end-requires c κs = search needs
 
+run : (c : tie.After-utf8-end Inv-loop μ-loop) → Run (c .before .before .before .args .s .now) (c .before .loop .at) (c .utf8-end .result)
+run c = record { starts = c .before .loop .inv .0; ends = c .utf8-end .ensures }
+
+ill : (c : tie.After-subpart-len Inv-loop μ-loop) → Ill (c .before .before .before .before .before .args .s .now) (c .before .before .utf8-end .result) (c .subpart-len .result)
+ill c = record { more = c .before .if1 .left; subpart = c .subpart-len .ensures }
+
 sub-n : tie.Need-sub-n Inv-loop μ-loop
-sub-n c = omega (arith, run-inside (c .before .before .before .args .s .now) (c .before .loop .at) (c .utf8-end .result) (c .before .loop .inv .0) (c .utf8-end .ensures) .0)
+sub-n c = omega (arith, run-inside (run c) .0)
 
 add-n : tie.Need-add-n Inv-loop μ-loop
-add-n c = omega (arith, run-inside (c .before .before .before .args .s .now) (c .before .loop .at) (c .utf8-end .result) (c .before .loop .inv .0) (c .utf8-end .ensures) .1, c .before .loop .inv .2)
+add-n c = omega (arith, run-inside (run c) .1, c .before .loop .inv .2)
 
 returns : tie.Need-returns Inv-loop μ-loop
-returns c = omega (arith, c .before .before .loop .inv .1, run-count (c .before .before .before .before .args .s .now) (c .before .before .loop .at) (c .before .utf8-end .result) (c .before .before .loop .inv .0) (c .before .utf8-end .ensures), ap length (run-last (c .before .before .before .before .args .s .now) (c .before .before .loop .at) (c .before .utf8-end .result) (c .before .before .loop .inv .0) (c .before .utf8-end .ensures) (c .if1 .taken)))
+returns c = omega (arith, c .before .before .loop .inv .1, run-count (run (c .before)), ap length (run-last (run (c .before)) (c .if1 .taken)))
 
 add-n-2 : tie.Need-add-n-2 Inv-loop μ-loop
-add-n-2 c = omega (arith, run-inside (c .before .before .before .before .args .s .now) (c .before .before .loop .at) (c .before .utf8-end .result) (c .before .before .loop .inv .0) (c .before .utf8-end .ensures) .1, c .before .before .loop .inv .2)
+add-n-2 c = omega (arith, run-inside (run (c .before)) .1, c .before .before .loop .inv .2)
 
 subpart-len-requires : tie.Need-subpart-len-requires Inv-loop μ-loop
 subpart-len-requires c κs = search needs
 
 add-at : tie.Need-add-at Inv-loop μ-loop
-add-at c = omega (arith, ill-inside (c .before .before .before .before .before .args .s .now) (c .before .before .before .loop .at) (c .before .before .utf8-end .result) (c .before .before .before .loop .inv .0) (c .before .before .utf8-end .ensures) (c .subpart-len .result) (c .before .if1 .left) (c .subpart-len .ensures) .1)
+add-at c = omega (arith, ill-inside (run (c .before .before)) (ill c) .1)
 
 loop-less : tie.Need-loop-less Inv-loop μ-loop
-loop-less c = omega (arith, run-inside (c .before .before .before .before .before .args .s .now) (c .before .before .before .loop .at) (c .before .before .utf8-end .result) (c .before .before .before .loop .inv .0) (c .before .before .utf8-end .ensures) .0, ill-inside (c .before .before .before .before .before .args .s .now) (c .before .before .before .loop .at) (c .before .before .utf8-end .result) (c .before .before .before .loop .inv .0) (c .before .before .utf8-end .ensures) (c .subpart-len .result) (c .before .if1 .left) (c .subpart-len .ensures) .0, ill-inside (c .before .before .before .before .before .args .s .now) (c .before .before .before .loop .at) (c .before .before .utf8-end .result) (c .before .before .before .loop .inv .0) (c .before .before .utf8-end .ensures) (c .subpart-len .result) (c .before .if1 .left) (c .subpart-len .ensures) .1)
+loop-less c =
+    omega (arith, run-inside (run (c .before .before)) .0, ill-inside (run (c .before .before)) (ill c) .0, ill-inside (run (c .before .before)) (ill c) .1)
 
 loop-again : tie.Need-loop-again Inv-loop μ-loop
 loop-again c = (
-  ill-inside (c .before .before .before .before .before .args .s .now) (c .before .before .before .loop .at) (c .before .before .utf8-end .result) (c .before .before .before .loop .inv .0) (c .before .before .utf8-end .ensures) (c .subpart-len .result) (c .before .if1 .left) (c .subpart-len .ensures) .1,
-  omega (arith, c .before .before .before .loop .inv .1, run-count (c .before .before .before .before .before .args .s .now) (c .before .before .before .loop .at) (c .before .before .utf8-end .result) (c .before .before .before .loop .inv .0) (c .before .before .utf8-end .ensures), ill-count (c .before .before .before .before .before .args .s .now) (c .before .before .before .loop .at) (c .before .before .utf8-end .result) (c .before .before .before .loop .inv .0) (c .before .before .utf8-end .ensures) (c .subpart-len .result) (c .before .if1 .left) (c .subpart-len .ensures)),
-  omega (arith, c .before .before .before .loop .inv .2, run-inside (c .before .before .before .before .before .args .s .now) (c .before .before .before .loop .at) (c .before .before .utf8-end .result) (c .before .before .before .loop .inv .0) (c .before .before .utf8-end .ensures) .0, ill-inside (c .before .before .before .before .before .args .s .now) (c .before .before .before .loop .at) (c .before .before .utf8-end .result) (c .before .before .before .loop .inv .0) (c .before .before .utf8-end .ensures) (c .subpart-len .result) (c .before .if1 .left) (c .subpart-len .ensures) .0),
+  ill-inside (run (c .before .before)) (ill c) .1,
+  omega (arith, c .before .before .before .loop .inv .1, run-count (run (c .before .before)), ill-count (run (c .before .before)) (ill c)),
+  omega (arith, c .before .before .before .loop .inv .2, run-inside (run (c .before .before)) .0, ill-inside (run (c .before .before)) (ill c) .0),
 )
 
 pub replaced-len-spec : {M : Type 1} → statement M

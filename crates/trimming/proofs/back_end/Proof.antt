@@ -29,16 +29,29 @@ white-back-requires : tie.Need-white-back-requires Inv-loop μ-loop
 white-back-requires c κs = search needs
 
 returns : tie.Need-returns Inv-loop μ-loop
-returns c = (c .before .before .before .loop .inv .0, ap flat (c .before .before .before .loop .inv .1) ∙ back-stop (c .before .before .before .before .before .args .s .now) (c .before .before .before .loop .end) (c .before .white-back .result) (c .before .before .before .loop .inv .0) (c .before .white-back .ensures) (c .if1 .taken))
+returns c =
+    let step = c .before .white-back in
+    let s = c .before .before .before .before .before .args .s .now in
+    let loop = c .before .before .before .loop in
+    (loop .inv .0, ap flat (loop .inv .1) ∙ back-stop s (loop .end) (step .result) (loop .inv .0) (step .ensures) (c .if1 .taken))
+
+inside : (c : tie.Else1 Inv-loop μ-loop) → c .before .white-back .result ≤ c .before .before .before .loop .end
+inside c =
+    let loop = c .before .before .before .loop in
+    back-inside (c .before .before .before .before .before .args .s .now) (loop .end) (c .before .white-back .result) (loop .inv .0) (c .before .white-back .ensures)
 
 sub-end : tie.Need-sub-end Inv-loop μ-loop
-sub-end c = omega (arith, back-inside (c .before .before .before .before .before .args .s .now) (c .before .before .before .loop .end) (c .before .white-back .result) (c .before .before .before .loop .inv .0) (c .before .white-back .ensures))
+sub-end c = omega (arith, inside c)
 
 loop-less : tie.Need-loop-less Inv-loop μ-loop
-loop-less c = omega (arith, back-inside (c .before .before .before .before .before .args .s .now) (c .before .before .before .loop .end) (c .before .white-back .result) (c .before .before .before .loop .inv .0) (c .before .white-back .ensures))
+loop-less c = omega (arith, inside c)
 
 loop-again : tie.Need-loop-again Inv-loop μ-loop
-loop-again c = (omega (arith, c .before .before .before .loop .inv .0), c .before .before .before .loop .inv .1 ∙ back-on (c .before .before .before .before .before .args .s .now) (c .before .before .before .loop .end) (c .before .white-back .result) (c .before .before .before .loop .inv .0) (c .before .white-back .ensures) (c .if1 .left))
+loop-again c =
+    let step = c .before .white-back in
+    let s = c .before .before .before .before .before .args .s .now in
+    let loop = c .before .before .before .loop in
+    (omega (arith, loop .inv .0), loop .inv .1 ∙ back-on s (loop .end) (step .result) (loop .inv .0) (step .ensures) (c .if1 .left))
 
 pub back-end-spec : {M : Type 1} → statement M
 back-end-spec =

@@ -2,7 +2,7 @@
 -- reached on.
 -- Assumes nothing.
 use mathlib.Core.Path.{_≡_, refl, _∙_}
-use Prim.Native.Nat.{_-_, _≤_}
+use Prim.Native.Nat.{_+_, _-_, _≤_}
 use native.Mathlib.Omega.{arith}
 use lib.ListN.{length, drop}
 use borrow.Author.Needs.{needs}
@@ -33,16 +33,29 @@ white-front-requires : tie.Need-white-front-requires Inv-loop μ-loop
 white-front-requires c κs = search needs
 
 returns : tie.Need-returns Inv-loop μ-loop
-returns c = (c .before .before .before .loop .inv .0, c .before .before .before .loop .inv .1 ∙ front-stop (c .before .before .before .before .before .args .s .now) (c .before .before .before .loop .at) (c .before .white-front .result) (c .before .before .before .loop .inv .0) (c .before .white-front .ensures) (c .if1 .taken))
+returns c =
+    let step = c .before .white-front in
+    let s = c .before .before .before .before .before .args .s .now in
+    let loop = c .before .before .before .loop in
+    (loop .inv .0, loop .inv .1 ∙ front-stop s (loop .at) (step .result) (loop .inv .0) (step .ensures) (c .if1 .taken))
+
+inside : (c : tie.Else1 Inv-loop μ-loop) → c .before .before .before .loop .at + c .before .white-front .result ≤ length (c .before .before .before .before .before .args .s .now)
+inside c =
+    let loop = c .before .before .before .loop in
+    front-inside (c .before .before .before .before .before .args .s .now) (loop .at) (c .before .white-front .result) (loop .inv .0) (c .before .white-front .ensures)
 
 add-at : tie.Need-add-at Inv-loop μ-loop
-add-at c = omega (arith, front-inside (c .before .before .before .before .before .args .s .now) (c .before .before .before .loop .at) (c .before .white-front .result) (c .before .before .before .loop .inv .0) (c .before .white-front .ensures))
+add-at c = omega (arith, inside c)
 
 loop-less : tie.Need-loop-less Inv-loop μ-loop
-loop-less c = omega (arith, front-inside (c .before .before .before .before .before .args .s .now) (c .before .before .before .loop .at) (c .before .white-front .result) (c .before .before .before .loop .inv .0) (c .before .white-front .ensures))
+loop-less c = omega (arith, inside c)
 
 loop-again : tie.Need-loop-again Inv-loop μ-loop
-loop-again c = (front-inside (c .before .before .before .before .before .args .s .now) (c .before .before .before .loop .at) (c .before .white-front .result) (c .before .before .before .loop .inv .0) (c .before .white-front .ensures), c .before .before .before .loop .inv .1 ∙ front-on (c .before .before .before .before .before .args .s .now) (c .before .before .before .loop .at) (c .before .white-front .result) (c .before .before .before .loop .inv .0) (c .before .white-front .ensures) (c .if1 .left))
+loop-again c =
+    let step = c .before .white-front in
+    let s = c .before .before .before .before .before .args .s .now in
+    let loop = c .before .before .before .loop in
+    (inside c, loop .inv .1 ∙ front-on s (loop .at) (step .result) (loop .inv .0) (step .ensures) (c .if1 .left))
 
 pub front-end-spec : {M : Type 1} → statement M
 front-end-spec =

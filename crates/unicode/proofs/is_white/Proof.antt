@@ -1,6 +1,6 @@
 -- `unicode::is_white` meets its contract. White space is a number of the table and a whole character.
 -- Assumes nothing.
-use mathlib.Core.Path.{sym, ap, _∙_}
+use mathlib.Core.Path.{refl, sym, ap, _∙_}
 use Prim.Native.Nat.{ℕ}
 use native.Mathlib.Omega.{arith}
 use borrow.Author.Needs.{needs}
@@ -24,7 +24,7 @@ code-point-requires : tie.Need-code-point-requires
 code-point-requires c κs = search needs
 
 is-listed-requires : tie.Need-is-listed-requires
-is-listed-requires c κs = search needs
+is-listed-requires c κs = refl
 
 is-char-requires : tie.Need-is-char-requires
 is-char-requires c κs = search needs

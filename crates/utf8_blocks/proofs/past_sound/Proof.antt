@@ -40,7 +40,9 @@ add-result-2 : tie.Need-add-result-2
 add-result-2 c = search needs
 
 returns-2 : tie.Need-returns-2
-returns-2 c = sound-lead (c .before .before .before .before .before .before .args .s .now) (c .before .before .before .before .before .before .args .from) (c .before .before .before .before .before .before .args .from + 67 - c .before .before .before .before .before .before .args .from) (omega arith) (omega arith) (c .before .before .before .before .before .before .pre .1) (c .before .before .before .faults .ensures (omega arith)) (c .before .before .before .before .before .before .args .from + 66) (omega arith) (omega arith) (omega arith)
+returns-2 c =
+    let z = c .before .before .before .before .before .before in
+    sound-lead (z .args .s .now) (z .args .from) (z .args .from + 67 - z .args .from) (omega arith) (omega arith) (z .pre .1) (c .before .before .before .faults .ensures (omega arith)) (z .args .from + 66) (omega arith) (omega arith) (omega arith)
 
 add-if3 : tie.Need-add-if3
 add-if3 c = search needs
@@ -52,7 +54,9 @@ add-result-3 : tie.Need-add-result-3
 add-result-3 c = search needs
 
 returns-3 : tie.Need-returns-3
-returns-3 c = sound-lead (c .before .before .before .before .before .before .before .before .args .s .now) (c .before .before .before .before .before .before .before .before .args .from) (c .before .before .before .before .before .before .before .before .args .from + 67 - c .before .before .before .before .before .before .before .before .args .from) (omega arith) (omega arith) (c .before .before .before .before .before .before .before .before .pre .1) (c .before .before .before .before .before .faults .ensures (omega arith)) (c .before .before .before .before .before .before .before .before .args .from + 65) (omega arith) (omega arith) (omega arith)
+returns-3 c =
+    let z = c .before .before .before .before .before .before .before .before in
+    sound-lead (z .args .s .now) (z .args .from) (z .args .from + 67 - z .args .from) (omega arith) (omega arith) (z .pre .1) (c .before .before .before .before .before .faults .ensures (omega arith)) (z .args .from + 65) (omega arith) (omega arith) (omega arith)
 
 add-if4 : tie.Need-add-if4
 add-if4 c = search needs
@@ -64,10 +68,14 @@ add-result-4 : tie.Need-add-result-4
 add-result-4 c = search needs
 
 returns-4 : tie.Need-returns-4
-returns-4 c = sound-lead (c .before .before .before .before .before .before .before .before .before .before .args .s .now) (c .before .before .before .before .before .before .before .before .before .before .args .from) (c .before .before .before .before .before .before .before .before .before .before .args .from + 67 - c .before .before .before .before .before .before .before .before .before .before .args .from) (omega arith) (omega arith) (c .before .before .before .before .before .before .before .before .before .before .pre .1) (c .before .before .before .before .before .before .before .faults .ensures (omega arith)) (c .before .before .before .before .before .before .before .before .before .before .args .from + 64) (omega arith) (omega arith) (omega arith)
+returns-4 c =
+    let z = c .before .before .before .before .before .before .before .before .before .before in
+    sound-lead (z .args .s .now) (z .args .from) (z .args .from + 67 - z .args .from) (omega arith) (omega arith) (z .pre .1) (c .before .before .before .before .before .before .before .faults .ensures (omega arith)) (z .args .from + 64) (omega arith) (omega arith) (omega arith)
 
 returns-5 : tie.Need-returns-5
-returns-5 c = sound-whole (c .before .before .before .before .before .before .before .before .before .before .args .s .now) (c .before .before .before .before .before .before .before .before .before .before .args .from) (c .before .before .before .before .before .before .before .before .before .before .args .from + 67 - c .before .before .before .before .before .before .before .before .before .before .args .from) (omega arith) (omega arith) (c .before .before .before .before .before .before .before .before .before .before .pre .1) (c .before .before .before .before .before .before .before .faults .ensures (omega arith)) (omega arith) (omega arith) (omega arith)
+returns-5 c =
+    let z = c .before .before .before .before .before .before .before .before .before .before in
+    sound-whole (z .args .s .now) (z .args .from) (z .args .from + 67 - z .args .from) (omega arith) (omega arith) (z .pre .1) (c .before .before .before .before .before .before .before .faults .ensures (omega arith)) (omega arith) (omega arith) (omega arith)
 
 pub past-sound-spec : {M : Type 1} → statement M
 past-sound-spec =
