@@ -1,4 +1,4 @@
 pub mod Paste
 pub mod Find
+pub mod Looking
 pub mod Shifting
-pub mod Compare

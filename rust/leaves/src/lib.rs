@@ -1,4 +1,4 @@
-//! The leaves, proved in crates/octets, unicode, escape and sections, as safe functions. Each tests what the function asks for.
+//! The leaves, proved in the crates that crates/leaves names, as safe functions. Each tests what the function asks for.
 
 mod raw {
     extern "C" {
