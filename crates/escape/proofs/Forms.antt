@@ -1,4 +1,4 @@
--- The laws that the functions of src/writing.rt rest on: the form of the bytes at a place, the bytes of a form, and one turn of their loops.
+-- The laws that the functions of src/lib.rt rest on: the form of the bytes at a place, the bytes of a form, and one turn of their loops.
 use Prim.Native.Nat.{ℕ, suc, _+_, _/_, _%_, _≤_, _<_}
 use mathlib.Core.Path.{_≡_, refl, sym, ap, _∙_}
 use mathlib.Core.Bool.{Bool, true, false, _&&_}
@@ -6,17 +6,17 @@ use mathlib.Core.List.{[], _∷_, _++_}
 use native.Mathlib.Numerals.{add-one}
 use native.Mathlib.Omega.{arith}
 use lib.Dec.{eqb}
-use lib.ListN.{length, drop, getD, set, length-append, length-drop, drop-of-length-le}
+use lib.ListN.{length, drop, getD, length-append, length-drop, drop-of-length-le}
 use lib.Seq.{drop-cons, drop-drop}
 use borrow.Author.Tests.{ne-eqb, lt-ltb, le-ltb}
 use Rattle.format.specs.Bytes.{Bytes, if_then_else_, pasted}
 use Rattle.format.specs.Characters.{_to_, within, isAsciiControl}
 use Rattle.format.specs.Escaping.{digit, shortForm, unicodeEscape, escape}
 use Rattle.format.proofs.Characters.Table.{within-intro}
-use Rattle.octets.proofs.Paste.{pasted-one, pasted-more, pasted-pasted}
+use Rattle.octets.proofs.Paste.{pasted-pasted}
 use Rattle.escape.specs.Forms.{byteForm, formOf, takesForm, widthForm, writtenForm}
-use Rattle.escape.specs.declared.writing.Form.{Form}
-use Rattle.escape.specs.declared.writing.Form.the-variants.{Raw, Short, Long, Upper}
+use Rattle.escape.specs.declared.Form.{Form}
+use Rattle.escape.specs.declared.Form.the-variants.{Raw, Short, Long, Upper}
 use Rattle.escape.proofs.Units.{escape-nil, escape-unit, byte-takes, form-byte}
 
 -- a byte from 32 on that is no quote, no backslash and no delete is written as it is
@@ -92,25 +92,6 @@ unicode-small n h =
     let b : n / 256 % 16 ≡ 0 = omega arith in
     let c : n / 16 % 16 ≡ n / 16 = omega arith in
     rw (a, b, c) refl
-
--- stores one behind another
-pub stores-two : (d : Bytes) (at a b : ℕ) → at + 2 ≤ length d → set (set d at a) (at + 1) b ≡ pasted at (a ∷ b ∷ []) d
-stores-two d at a b h = rw (pasted-one at a d (omega arith)) (pasted-more at (a ∷ []) d b (omega arith))
-
-pub stores-three : (d : Bytes) (at a b c : ℕ) → at + 3 ≤ length d → set (set (set d at a) (at + 1) b) (at + 2) c ≡ pasted at (a ∷ b ∷ c ∷ []) d
-stores-three d at a b c h = rw (stores-two d at a b (omega arith)) (pasted-more at (a ∷ b ∷ []) d c (omega arith))
-
-pub stores-six :
-    (d : Bytes) (at a b c e f g : ℕ)
-    → at + 6 ≤ length d
-    → set (set (set (set (set (set d at a) (at + 1) b) (at + 2) c) (at + 3) e) (at + 4) f) (at + 5) g ≡ pasted at (a ∷ b ∷ c ∷ e ∷ f ∷ g ∷ []) d
-stores-six d at a b c e f g h =
-    rw (
-      stores-three d at a b c (omega arith),
-      pasted-more at (a ∷ b ∷ c ∷ []) d e (omega arith),
-      pasted-more at (a ∷ b ∷ c ∷ e ∷ []) d f (omega arith),
-    )
-    (pasted-more at (a ∷ b ∷ c ∷ e ∷ f ∷ []) d g (omega arith))
 
 form-takes : (b : ℕ) (t : Bytes) → takesForm (formOf (b ∷ t)) ≤ suc (length t)
 unfolding formOf

@@ -1,6 +1,3 @@
 pub mod Units
 pub mod Forms
-pub mod Looking
 pub mod BareBytes
-pub mod Digits
-pub mod Escapes

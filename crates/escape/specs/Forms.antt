@@ -1,23 +1,15 @@
 -- How the bytes of a value are written, a byte or a two-byte control at a time: what document 01, "Escaping", says of the characters
 -- of a value, for any bytes. proofs/Units.antt has the law that says so. Assumes nothing.
 use Prim.Native.Nat.{ℕ}
-use mathlib.Core.Bool.{Bool, not, _&&_, _||_}
+use mathlib.Core.Bool.{_&&_}
 use mathlib.Core.List.{[], _∷_}
 use mathlib.Core.Option.{Option, none, some}
-use lib.Dec.{ltb, eqb}
-use Rattle.format.specs.Bytes.{Bytes, if_then_else_, backslash, quote}
+use lib.Dec.{eqb}
+use Rattle.format.specs.Bytes.{Bytes, if_then_else_, backslash}
 use Rattle.format.specs.Characters.{_to_, within, isAsciiControl}
 use Rattle.format.specs.Escaping.{shortForm, unicodeEscape}
-use Rattle.escape.specs.declared.writing.Form.{Form}
-use Rattle.escape.specs.declared.writing.Form.the-variants.{Raw, Short, Long, Upper}
-
--- a byte below 32
-abbrev pub isLow : ℕ → Bool
-isLow b = ltb b 32
-
--- the byte is written as it is, whatever stands around it
-unfoldable pub isBare : ℕ → Bool
-isBare b = not (isLow b || (eqb quote b || (eqb backslash b || (eqb 0x7F b || eqb 0xC2 b))))
+use Rattle.escape.specs.declared.Form.{Form}
+use Rattle.escape.specs.declared.Form.the-variants.{Raw, Short, Long, Upper}
 
 -- a byte with no short form: an ASCII control as `\u`, any other as it is
 abbrev pub longByte : ℕ → Form

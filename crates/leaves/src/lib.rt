@@ -8,7 +8,7 @@ ghost use Rattle.format.specs.Bytes.{pasted, same, before, occurs, upTo, lower,
 ghost use Rattle.format.specs.Characters.{isUtf8, isWhite, isControl, replaced, trim};
 ghost use Rattle.format.specs.Escaping.{escape, unescape};
 ghost use Rattle.format.specs.Limits.{maxText};
-ghost use Rattle.escape.specs.Reads.{measured, valueOf};
+ghost use Rattle.unescape.specs.Reads.{measured, valueOf};
 ghost use Rattle.sections.specs.Body.{joined};
 ghost use Rattle.sections.specs.Place.{place};
 
@@ -84,7 +84,7 @@ pub extern "C" fn leaves_escape(out: &mut [u8], s: &[u8]) -> usize
 pub extern "C" fn leaves_reads(s: &[u8]) -> bool
     ensures { λ r. ⌜ r ≡ (measured (unescape (now (s .entry)))) .ok ⌝ }
 {
-    let m = escape::unescaped_len(s);
+    let m = unescape::unescaped_len(s);
     m.ok
 }
 
@@ -92,7 +92,7 @@ pub extern "C" fn leaves_reads(s: &[u8]) -> bool
 pub extern "C" fn leaves_unescaped_len(s: &[u8]) -> usize
     ensures { λ r. ⌜ r ≡ (measured (unescape (now (s .entry)))) .len ⌝ }
 {
-    let m = escape::unescaped_len(s);
+    let m = unescape::unescaped_len(s);
     m.len
 }
 
@@ -103,7 +103,7 @@ pub extern "C" fn leaves_unescape(out: &mut [u8], s: &[u8]) -> usize
     ensures len { λ r. ⌜ r ≡ 0 + length (valueOf (unescape (now (s .entry)))) ⌝ }
     ensures bytes { λ _. ⌜ now (out .exit) ≡ pasted 0 (valueOf (unescape (now (s .entry)))) (now (out .entry)) ⌝ }
 {
-    escape::unescape_header_value(out, 0, s)
+    unescape::unescape_header_value(out, 0, s)
 }
 
 #[no_mangle]
@@ -165,28 +165,28 @@ pub extern "C" fn leaves_zero_fill(s: &mut [u8])
 pub extern "C" fn leaves_before(a: &[u8], b: &[u8]) -> bool
     ensures { λ r. ⌜ r ≡ before (now (a .entry)) (now (b .entry)) ⌝ }
 {
-    octets::before(a, b)
+    compare::before(a, b)
 }
 
 #[no_mangle]
 pub extern "C" fn leaves_same(a: &[u8], b: &[u8]) -> bool
     ensures { λ r. ⌜ r ≡ same (now (a .entry)) (now (b .entry)) ⌝ }
 {
-    octets::same(a, b)
+    compare::same(a, b)
 }
 
 #[no_mangle]
 pub extern "C" fn leaves_same_letters(a: &[u8], b: &[u8]) -> bool
     ensures { λ r. ⌜ r ≡ sameLetters (now (a .entry)) (now (b .entry)) ⌝ }
 {
-    octets::same_letters(a, b)
+    compare::same_letters(a, b)
 }
 
 #[no_mangle]
 pub extern "C" fn leaves_says(text: &[u8], pattern: &[u8]) -> bool
     ensures { λ r. ⌜ r ≡ occurs (now (pattern .entry)) (map lower (now (text .entry))) ⌝ }
 {
-    octets::says(text, pattern)
+    compare::says(text, pattern)
 }
 
 #[no_mangle]

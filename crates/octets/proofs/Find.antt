@@ -1,5 +1,5 @@
 -- What `find_byte` gives: the place of the first c, before which `upTo` and behind which `past` stand. Assumes nothing.
-use Prim.Native.Nat.{ℕ, suc, _+_, _≤_, _<_}
+use Prim.Native.Nat.{ℕ, zero, suc, _+_, _≤_, _<_}
 use mathlib.Core.Path.{_≡_, refl, sym, ap, _∙_}
 use mathlib.Core.Bool.{Bool, true, false, _||_}
 use mathlib.Core.Logic.{⊎-elim}
@@ -10,7 +10,7 @@ use lib.Dec.{eqb, ltb}
 use lib.ListN.{length, take, drop, getD, length-take, drop-of-length-le}
 use lib.Seq.{drop-cons}
 use borrow.Author.Tests.{eq-eqb, ne-eqb, lt-ltb, le-ltb, ltb-true, ltb-false}
-use Rattle.format.proofs.Lists.{bcase}
+use Rattle.format.proofs.Lists.{bcase, or-false-left, or-false-right}
 use Rattle.format.specs.Bytes.{Bytes, if_then_else_, any, has, upTo, past}
 
 -- the part before it, by the place
@@ -79,3 +79,12 @@ upTo-other c s i h e = rw (drop-cons s i 0 h, ne-eqb c (getD s i 0) (λ q. e (sy
 pub upTo-end : (c : ℕ) (s : Bytes) (i : ℕ) → length s ≤ i → length (upTo c (drop i s)) ≡ 0
 unfolding upTo
 upTo-end c s i h = rw (drop-of-length-le s {i = i} h) refl
+
+-- n bytes without a c are passed over
+pub upTo-skip : (c n : ℕ) (t : Bytes) → n ≤ length t → has c (take n t) ≡ false → length (upTo c t) ≡ n + length (upTo c (drop n t))
+unfolding any upTo
+upTo-skip c zero t h e = omega arith
+upTo-skip c (suc n) [] h e = absurd (omega arith)
+upTo-skip c (suc n) (b ∷ t) h e =
+    let f = upTo-skip c n t (omega arith) (or-false-right (eqb c b) (has c (take n t)) e) in
+    rw (or-false-left (eqb c b) (has c (take n t)) e) (omega arith)

@@ -1,5 +1,5 @@
 pub mod Paste
 pub mod Find
+pub mod Looking
 pub mod Shifting
-pub mod Compare
 pub mod Written

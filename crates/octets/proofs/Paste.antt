@@ -7,7 +7,7 @@ use native.Mathlib.Nat.{add-zero, add-assoc, zero-add, suc-add}
 use native.Mathlib.Numerals.{add-one}
 use native.Mathlib.Omega.{arith}
 use lib.ListN.{length, take, drop, getD, set, length-append, length-take, length-drop, take-append-drop, drop-of-length-le}
-use lib.Seq.{paste, take-length, length-take-le, take-at, drop-at, take-nil, take-append-le, take-take, take-suc, drop-drop, set-split}
+use lib.Seq.{paste, take-length, length-take-le, take-at, drop-at, take-nil, take-append-le, take-take, take-add, take-suc, drop-drop, take-append-seam, drop-append-seam, set-split}
 use Rattle.format.specs.Bytes.{Bytes, pasted, over}
 
 -- nothing pasted changes nothing
@@ -108,6 +108,25 @@ pub pasted-more : (at : ℕ) (s d : Bytes) (b : ℕ) → at + length s < length 
 pasted-more at s d b h =
     pasted-one (at + length s) b (pasted at s d) (rw (length-pasted at s d (omega arith)) h) ∙ pasted-pasted at s (b ∷ []) d (omega arith)
 
+-- stores one behind another
+pub stores-two : (d : Bytes) (at a b : ℕ) → at + 2 ≤ length d → set (set d at a) (at + 1) b ≡ pasted at (a ∷ b ∷ []) d
+stores-two d at a b h = rw (pasted-one at a d (omega arith)) (pasted-more at (a ∷ []) d b (omega arith))
+
+pub stores-three : (d : Bytes) (at a b c : ℕ) → at + 3 ≤ length d → set (set (set d at a) (at + 1) b) (at + 2) c ≡ pasted at (a ∷ b ∷ c ∷ []) d
+stores-three d at a b c h = rw (stores-two d at a b (omega arith)) (pasted-more at (a ∷ b ∷ []) d c (omega arith))
+
+pub stores-six :
+    (d : Bytes) (at a b c e f g : ℕ)
+    → at + 6 ≤ length d
+    → set (set (set (set (set (set d at a) (at + 1) b) (at + 2) c) (at + 3) e) (at + 4) f) (at + 5) g ≡ pasted at (a ∷ b ∷ c ∷ e ∷ f ∷ g ∷ []) d
+stores-six d at a b c e f g h =
+    rw (
+      stores-three d at a b c (omega arith),
+      pasted-more at (a ∷ b ∷ c ∷ []) d e (omega arith),
+      pasted-more at (a ∷ b ∷ c ∷ e ∷ []) d f (omega arith),
+    )
+    (pasted-more at (a ∷ b ∷ c ∷ e ∷ f ∷ []) d g (omega arith))
+
 -- one more byte of a text, as a loop copies it
 pub pasted-next : (at : ℕ) (s d : Bytes) (i : ℕ) → i < length s → at + i < length d
     → set (pasted at (take i s) d) (at + i) (getD s i 0) ≡ pasted at (take (i + 1) s) d
@@ -116,3 +135,27 @@ pasted-next at s d i h k =
     ap (λ (n : ℕ). set (pasted at (take i s) d) (at + n) (getD s i 0)) (sym e)
     ∙ pasted-more at (take i s) d (getD s i 0) (rw e k)
     ∙ ap (λ (l : Bytes). pasted at l d) (sym (take-suc s i 0 h) ∙ ap (λ (n : ℕ). take n s) (sym (add-one i)))
+
+-- a list of which n elements are passed, and x stands next
+module _ (j x y : Bytes) (n : ℕ) (next : drop n j ≡ x ++ y) where
+  pub drop-next : drop (n + length x) j ≡ y
+  drop-next = sym (drop-drop (length x) n j) ∙ rw next (drop-append-seam x y)
+
+  pub take-next : take (n + length x) j ≡ take n j ++ x
+  take-next = take-add n (length x) j ∙ rw next (ap (λ (s : Bytes). take n j ++ s) (take-append-seam x y))
+
+  pub next-fits : n ≤ length j → n + length x ≤ length j
+  next-fits h = omega (arith, sym (length-drop n j) ∙ ap length next ∙ length-append x y)
+
+  -- the first n bytes of j are written, and x behind them
+  pub pasted-part : (at : ℕ) (d : Bytes) → n ≤ length j → at ≤ length d → pasted (at + n) x (pasted at (take n j) d) ≡ pasted at (take (n + length x) j) d
+  pasted-part at d h k =
+      let e : length (take n j) ≡ n = length-take-le n j h in
+      ap (λ (i : ℕ). pasted (at + i) x (pasted at (take n j) d)) (sym e) ∙ pasted-pasted at (take n j) x d k ∙ ap (λ (s : Bytes). pasted at s d) (sym take-next)
+
+-- the last bytes of j are written
+pub pasted-end : (j x d : Bytes) (n at : ℕ) → drop n j ≡ x → n ≤ length j → at ≤ length d → pasted (at + n) x (pasted at (take n j) d) ≡ pasted at j d
+pasted-end j x d n at h l k =
+    let e : drop n j ≡ x ++ [] = h ∙ sym (append-nil x) in
+    let all : n + length x ≡ length j = omega (arith, sym (length-drop n j) ∙ ap length h) in
+    pasted-part j x [] n e at d l k ∙ rw (all, take-length j) refl

@@ -1,12 +1,11 @@
-// Byte slices: bytes copied, moved and zeroed, texts compared, a byte and a word looked for.
+// Byte slices: bytes copied, moved and zeroed, and a byte looked for.
 // Each contract is an equation with a definition of crates/format/specs/Bytes.antt; proofs/Paste.antt has the laws of
 // `pasted`, by which every crate above says what it wrote, and proofs/Find.antt those of `find_byte`.
 
 ghost use mathlib.Core.Path.{_≡_};
-ghost use mathlib.Core.List.{map};
 ghost use Prim.Native.Nat.{_+_, _≤_};
 ghost use lib.ListN.{length, take, drop, replicate};
-ghost use Rattle.format.specs.Bytes.{pasted, same, before, occurs, upTo, lower, sameLetters};
+ghost use Rattle.format.specs.Bytes.{pasted, has, upTo};
 
 // src over the bytes of dst from the place at on.
 pub fn copy_at(dst: &mut [u8], at: usize, src: &[u8])
@@ -80,75 +79,24 @@ pub fn zero_fill(s: &mut [u8])
     }
 }
 
-// The same bytes.
-pub fn same(a: &[u8], b: &[u8]) -> bool
-    ensures { λ r. ⌜ r ≡ same (now (a .entry)) (now (b .entry)) ⌝ }
+// The byte c stands in the block. No early exit: a block's test is a few vector instructions.
+pub fn has_byte(block: &[u8], c: u8) -> bool
+    requires { ⌜ length (now block) ≡ 16 ⌝ }
+    ensures { λ r. ⌜ r ≡ has c (now (block .entry)) ⌝ }
 {
-    if a.len() != b.len() {
-        return false;
-    }
-    let mut i = 0;
-    while i < a.len() {
-        if a[i] != b[i] {
-            return false;
+    let mut hit = false;
+    let mut k = 0;
+    while k < 16 {
+        if block[k] == c {
+            hit = true;
         }
-        i += 1;
+        k += 1;
     }
-    true
+    hit
 }
 
-// Strictly before in byte order; a prefix comes first.
-pub fn before(a: &[u8], b: &[u8]) -> bool
-    ensures { λ r. ⌜ r ≡ before (now (a .entry)) (now (b .entry)) ⌝ }
-{
-    let mut i = 0;
-    while i < b.len() {
-        if a.len() <= i {
-            return true;
-        }
-        if a[i] < b[i] {
-            return true;
-        }
-        if b[i] < a[i] {
-            return false;
-        }
-        i += 1;
-    }
-    false
-}
-
-// A to Z become a to z.
-pub fn lower(b: u8) -> u8
-    ensures { λ r. ⌜ r ≡ lower b ⌝ }
-{
-    if b < 65 {
-        return b;
-    }
-    if 90 < b {
-        return b;
-    }
-    b + 32
-}
-
-// The same bytes, letters in any ASCII case.
-pub fn same_letters(a: &[u8], b: &[u8]) -> bool
-    ensures { λ r. ⌜ r ≡ sameLetters (now (a .entry)) (now (b .entry)) ⌝ }
-{
-    if a.len() != b.len() {
-        return false;
-    }
-    let mut i = 0;
-    while i < a.len() {
-        if lower(a[i]) != lower(b[i]) {
-            return false;
-        }
-        i += 1;
-    }
-    true
-}
-
-// The place of the first c, or the length where there is none.
-pub fn find_byte(s: &[u8], c: u8) -> usize
+// The place of the first c, or the length where there is none: byte by byte.
+fn find_plain(s: &[u8], c: u8) -> usize
     ensures { λ r. ⌜ r ≡ length (upTo c (now (s .entry))) ⌝ }
 {
     let mut i = 0;
@@ -161,29 +109,16 @@ pub fn find_byte(s: &[u8], c: u8) -> usize
     i
 }
 
-// Whether the pattern, in lower case and not empty, stands anywhere in the text, whose letters are of any ASCII case.
-pub fn says(text: &[u8], pattern: &[u8]) -> bool
-    ensures { λ r. ⌜ r ≡ occurs (now (pattern .entry)) (map lower (now (text .entry))) ⌝ }
+// The same in blocks: those without a c are passed over.
+pub fn find_byte(s: &[u8], c: u8) -> usize
+    ensures { λ r. ⌜ r ≡ length (upTo c (now (s .entry))) ⌝ }
 {
-    let mut at = 0;
-    let found = 'places: loop {
-        if text.len() <= at {
-            break 'places false;
+    let mut i = 0;
+    while 16 <= s.len() - i {
+        if has_byte(&s[i..i + 16], c) {
+            return i + find_plain(&s[i..], c);
         }
-        if text.len() - at < pattern.len() {
-            break 'places false;
-        }
-        let mut j = 0;
-        loop {
-            if pattern.len() <= j {
-                break 'places true;
-            }
-            if lower(text[at + j]) != pattern[j] {
-                break;
-            }
-            j += 1;
-        }
-        at += 1;
-    };
-    found
+        i += 16;
+    }
+    i + find_plain(&s[i..], c)
 }

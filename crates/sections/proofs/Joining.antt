@@ -1,17 +1,16 @@
 -- The sections joined, piece by piece: what a cut says of the whole, and what has been written so far. Assumes nothing.
-use Prim.Native.Nat.{ℕ, _+_, _≤_}
+use Prim.Native.Nat.{_+_, _≤_}
 use mathlib.Core.Path.{_≡_, refl, sym, ap, _∙_}
 use mathlib.Core.Bool.{true, false}
-use mathlib.Core.List.{[], _∷_, _++_, append-assoc, append-nil}
+use mathlib.Core.List.{[], _∷_, _++_, append-assoc}
 use mathlib.Core.Logic.{⊎-elim}
 use native.Mathlib.Omega.{arith}
-use lib.ListN.{length, take, drop, length-append, length-drop}
-use lib.Seq.{length-take-le, take-add, drop-drop, take-append-seam, drop-append-seam, take-length}
-use Rattle.format.specs.Bytes.{Bytes, cr, lf, LFLF, CRLFCRLF, pieces, split, pasted}
+use lib.ListN.{length, take, drop, length-append}
+use lib.Seq.{length-take-le, take-length}
+use Rattle.format.specs.Bytes.{Bytes, cr, lf, LFLF, CRLFCRLF, pieces, split}
 use Rattle.format.specs.Reading.{bodyOf}
 use Rattle.format.proofs.Lists.{bcase}
 use Rattle.format.proofs.Splitting.Split.{join-one, join-cons, join-split}
-use Rattle.octets.proofs.Paste.{pasted-pasted}
 use Rattle.sections.specs.declared.cuts.Piece.{Piece}
 use Rattle.sections.specs.Body.{joined, opening}
 use Rattle.sections.specs.Cuts.{cutOf}
@@ -77,27 +76,3 @@ opening-fits t = ⊎-elim last more (bcase ((cutOf LFLF t) .last))
     more h =
         let rest = drop ((cutOf LFLF t) .next) t in
         rw (joined-next t rest (cutOf LFLF t) refl h (cut-more LFLF t (cutOf LFLF t) (omega arith) refl h), length-append (opening t) (joined rest)) (omega arith)
-
--- a list of which n elements are passed, and x stands next
-module _ (j x y : Bytes) (n : ℕ) (next : drop n j ≡ x ++ y) where
-  pub drop-next : drop (n + length x) j ≡ y
-  drop-next = sym (drop-drop (length x) n j) ∙ rw next (drop-append-seam x y)
-
-  pub take-next : take (n + length x) j ≡ take n j ++ x
-  take-next = take-add n (length x) j ∙ rw next (ap (λ (s : Bytes). take n j ++ s) (take-append-seam x y))
-
-  pub next-fits : n ≤ length j → n + length x ≤ length j
-  next-fits h = omega (arith, sym (length-drop n j) ∙ ap length next ∙ length-append x y)
-
-  -- the first n bytes of j are written, and x behind them
-  pub pasted-part : (at : ℕ) (d : Bytes) → n ≤ length j → at ≤ length d → pasted (at + n) x (pasted at (take n j) d) ≡ pasted at (take (n + length x) j) d
-  pasted-part at d h k =
-      let e : length (take n j) ≡ n = length-take-le n j h in
-      ap (λ (i : ℕ). pasted (at + i) x (pasted at (take n j) d)) (sym e) ∙ pasted-pasted at (take n j) x d k ∙ ap (λ (s : Bytes). pasted at s d) (sym take-next)
-
--- the last bytes of j are written
-pub pasted-end : (j x d : Bytes) (n at : ℕ) → drop n j ≡ x → n ≤ length j → at ≤ length d → pasted (at + n) x (pasted at (take n j) d) ≡ pasted at j d
-pasted-end j x d n at h l k =
-    let e : drop n j ≡ x ++ [] = h ∙ sym (append-nil x) in
-    let all : n + length x ≡ length j = omega (arith, sym (length-drop n j) ∙ ap length h) in
-    pasted-part j x [] n e at d l k ∙ rw (all, take-length j) refl

@@ -208,15 +208,13 @@ pub fn validate_content_type(s: &[u8]) -> Numbers
     }
 }
 
-// 10, 11.
+// 10, as for every value, and 11.
 pub fn validate_content_header_value(s: &[u8]) -> Numbers
     ensures { λ r. ⌜ r ≡ numbers (contentValue (now (s .entry))) ⌝ }
 {
-    if MAX_HEADER_VALUE_LENGTH < s.len() {
-        return Numbers {
-            number: 10,
-            carried: s.len() as u64,
-        };
+    let length = validate_cpim_header_value(s);
+    if length.number != 0 {
+        return length;
     }
     if any_in(Class::Control, s) {
         return Numbers {

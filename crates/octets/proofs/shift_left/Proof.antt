@@ -1,5 +1,5 @@
 -- `octets::shift_left` meets its contract. The invariant: the first i bytes are moved. Assumes nothing.
-use mathlib.Core.Path.{_≡_, refl, sym, _∙_}
+use mathlib.Core.Path.{_≡_, refl, sym}
 use Prim.Native.Nat.{_+_, _-_, _≤_}
 use native.Mathlib.Omega.{arith}
 use lib.ListN.{length, take, drop}
@@ -43,8 +43,7 @@ loop-again c =
     let args = at-loop .before .before .args in
     let i = at-loop .loop .i in (
       omega arith,
-      c .before .before .shift-part .ensures
-          ∙ shifted-left (args .from) (args .to) i 32 (i + 32) (args .s .now) (at-loop .loop .s) refl (omega arith) (omega arith) (at-loop .loop .inv .1),
+      shifted-left (args .from) (args .to) i 32 (i + 32) (args .s .now) (at-loop .loop .s) _ refl (omega arith) (omega arith) (at-loop .loop .inv .1) (c .before .before .shift-part .ensures),
       omega arith,
     )
 
@@ -68,8 +67,7 @@ returns c =
     let at-loop = c .before .before .before .before .before in
     let args = at-loop .before .before .args in
     let i = at-loop .loop .i in
-    c .before .before .shift-part2 .ensures
-    ∙ shifted-left (args .from) (args .to) i (args .n - i) (args .n) (args .s .now) (at-loop .loop .s) (omega arith) (omega arith) (omega arith) (at-loop .loop .inv .1)
+    shifted-left (args .from) (args .to) i (args .n - i) (args .n) (args .s .now) (at-loop .loop .s) _ (omega arith) (omega arith) (omega arith) (at-loop .loop .inv .1) (c .before .before .shift-part2 .ensures)
 
 pub shift-left-spec : {M : Type 1} → statement M
 shift-left-spec =

@@ -1,7 +1,6 @@
 -- `octets::shift_right` meets its contract. The invariant: the bytes from i on are moved. Assumes nothing.
-use mathlib.Core.Path.{_≡_, refl, _∙_}
+use mathlib.Core.Path.{_≡_, refl}
 use Prim.Native.Nat.{_+_, _-_, _≤_}
-use native.Mathlib.Nat.{add-zero}
 use native.Mathlib.Omega.{arith}
 use lib.ListN.{length, take, drop}
 use borrow.Author.Needs.{needs}
@@ -39,8 +38,7 @@ loop-again c =
     let args = at-loop .before .before .args in
     let i = at-loop .loop .i in (
       omega arith,
-      c .before .before .shift-part .ensures
-          ∙ shifted-right (args .from) (args .to) (args .n) (i - 32) 32 i (args .s .now) (at-loop .loop .s) (omega arith) (omega arith) (omega arith) (omega arith) (at-loop .loop .inv .1),
+      shifted-right (args .from) (args .to) (args .n) (i - 32) 32 i (args .from + (i - 32)) (args .to + (i - 32)) (args .s .now) (at-loop .loop .s) _ (omega arith) (omega arith) (omega arith) (omega arith) refl refl (at-loop .loop .inv .1) (c .before .before .shift-part .ensures),
       omega arith,
     )
 
@@ -55,9 +53,7 @@ returns c =
     let at-loop = c .before .before .before .before .before in
     let args = at-loop .before .before .args in
     let i = at-loop .loop .i in
-    let step =
-    shifted-right (args .from) (args .to) (args .n) 0 i i (args .s .now) (at-loop .loop .s) (omega arith) (omega arith) (omega arith) (omega arith) (at-loop .loop .inv .1) in
-    c .before .before .shift-part2 .ensures ∙ (simp add-zero at step)
+    shifted-right (args .from) (args .to) (args .n) 0 i i (args .from) (args .to) (args .s .now) (at-loop .loop .s) _ (omega arith) (omega arith) (omega arith) (omega arith) (omega arith) (omega arith) (at-loop .loop .inv .1) (c .before .before .shift-part2 .ensures)
 
 pub shift-right-spec : {M : Type 1} → statement M
 shift-right-spec =

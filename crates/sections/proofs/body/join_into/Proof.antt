@@ -9,11 +9,11 @@ use borrow.Author.Needs.{needs}
 use lib.Seq.{length-take-le}
 use Rattle.format.specs.Bytes.{LFLF, CRLFCRLF, pasted}
 use Rattle.format.proofs.Lists.{rest-is}
-use Rattle.octets.proofs.Paste.{pasted-nil, length-pasted}
+use Rattle.octets.proofs.Paste.{pasted-nil, length-pasted, drop-next, next-fits, pasted-part, pasted-end}
 use Rattle.sections.specs.Body.{joined, opening}
 use Rattle.sections.specs.Cuts.{cutOf}
 use Rattle.sections.proofs.Cutting.{More, rest-more}
-use Rattle.sections.proofs.Joining.{opening-more, opening-fits, joined-next, joined-end, drop-next, next-fits, pasted-part, pasted-end}
+use Rattle.sections.proofs.Joining.{opening-more, opening-fits, joined-next, joined-end}
 use Rattle.sections.proofs.body.join_into.Statement.{statement}
 use Rattle.sections.proofs.body.join_into.Tie as tie
 

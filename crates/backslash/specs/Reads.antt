@@ -1,0 +1,33 @@
+-- What the functions answer for the options of document 01's definitions: a number that stands for none, and a `Read` for an escape.
+-- Assumes nothing.
+use Prim.Native.Nat.{ℕ}
+use mathlib.Core.Option.{Option, none, some}
+use lib.Dec.{eqb}
+use Rattle.format.specs.Bytes.{if_then_else_, plus}
+use Rattle.format.specs.Characters.{encoding}
+use Rattle.format.specs.Escaping.{digitValue, Escape, scalarEscape}
+use Rattle.backslash.specs.declared.Read.{Read}
+use Rattle.backslash.specs.declared.Read.the-variants.{Code, Nothing}
+
+-- the number, or one that stands for none
+abbrev pub orElse : ℕ → Option ℕ → ℕ
+orElse n none = n
+orElse n (some m) = m
+
+-- the first of the four digits behind `\u`, or a plus
+abbrev pub firstValue : ℕ → Option ℕ
+firstValue c = if eqb c plus then some 0 else digitValue c
+
+-- the escape of the number behind `\u`, 65536 standing for none
+abbrev pub scalarOf : ℕ → Option Escape
+scalarOf n = if eqb n 65536 then none else scalarEscape (some n)
+
+-- the escape that a code point and a count of bytes behind the backslash stand for
+abbrev pub escapeOf : Read → Option Escape
+escapeOf Nothing = none
+escapeOf (Code n k) = some (record { stands = encoding n; takes = k })
+
+-- its code point
+abbrev pub codeOf : Read → ℕ
+codeOf Nothing = 0
+codeOf (Code n k) = n
