@@ -9,8 +9,8 @@ ghost use Rattle.format.specs.Characters.{isUtf8, isWhite, isControl, replaced,
 ghost use Rattle.format.specs.Escaping.{escape, unescape};
 ghost use Rattle.format.specs.Limits.{maxText};
 ghost use Rattle.unescape.specs.Reads.{measured, valueOf};
-ghost use Rattle.sections.specs.Body.{joined};
-ghost use Rattle.sections.specs.Place.{place};
+ghost use Rattle.bodies.specs.Body.{joined};
+ghost use Rattle.search.specs.Place.{place};
 
 #[no_mangle]
 pub extern "C" fn leaves_is_utf8(s: &[u8]) -> bool
@@ -111,7 +111,7 @@ pub extern "C" fn leaves_find(text: &[u8], pattern: &[u8]) -> usize
     requires { ⌜ 0 < length (now pattern) ⌝ }
     ensures { λ r. ⌜ r ≡ place (now (pattern .entry)) (now (text .entry)) ⌝ }
 {
-    sections::search::find(text, pattern)
+    search::find(text, pattern)
 }
 
 #[no_mangle]
@@ -119,7 +119,7 @@ pub extern "C" fn leaves_find_plain(text: &[u8], pattern: &[u8]) -> usize
     requires { ⌜ 0 < length (now pattern) ⌝ }
     ensures { λ r. ⌜ r ≡ place (now (pattern .entry)) (now (text .entry)) ⌝ }
 {
-    sections::search::find_plain(text, pattern)
+    search::find_plain(text, pattern)
 }
 
 #[no_mangle]
@@ -127,7 +127,7 @@ pub extern "C" fn leaves_joined_len(rest: &[u8]) -> usize
     requires { ⌜ length (now rest) ≤ maxText ⌝ }
     ensures { λ r. ⌜ r ≡ length (joined (now (rest .entry))) ⌝ }
 {
-    sections::body::joined_len(rest)
+    bodies::joined_len(rest)
 }
 
 #[no_mangle]
@@ -135,7 +135,7 @@ pub extern "C" fn leaves_join_into(out: &mut [u8], rest: &[u8])
     requires { ⌜ 0 + length (joined (now rest)) ≤ length (now out) ⌝ }
     ensures { λ _. ⌜ now (out .exit) ≡ pasted 0 (joined (now (rest .entry))) (now (out .entry)) ⌝ }
 {
-    sections::body::join_into(out, 0, rest)
+    bodies::join_into(out, 0, rest)
 }
 
 #[no_mangle]

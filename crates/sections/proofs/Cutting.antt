@@ -10,10 +10,10 @@ use lib.Seq.{drop-drop}
 use Rattle.format.specs.Bytes.{Bytes, CRLF, CRLFCRLF, occurs, pieces, split}
 use Rattle.format.specs.Reading.{separator, sections, lineEnd, lines}
 use Rattle.format.proofs.Lists.{bcase, rest-is}
-use Rattle.sections.specs.declared.cuts.Piece.{Piece}
-use Rattle.sections.specs.Place.{place}
+use Rattle.sections.specs.declared.Piece.{Piece}
+use Rattle.search.specs.Place.{place}
 use Rattle.sections.specs.Cuts.{cutOf, separatorFor, lineEndFor}
-use Rattle.sections.proofs.Places.{place-le}
+use Rattle.search.proofs.Places.{place-le}
 use Rattle.sections.proofs.Found.{found-fits, found-pieces, none-pieces, none-occurs, some-occurs}
 
 -- the sections and the lines by what the two tests answer
@@ -26,11 +26,11 @@ unfolding lines lineEnd
 lines-are s = refl
 
 -- the cut by the place that a search found
-pub cut-none : (p t : Bytes) → 0 < length p → place p t ≡ length t → cutOf p t ≡ record { at = place p t; next = place p t; last = true }
+pub cut-none : (p t : Bytes) → 0 < length p → place p t ≡ length t → cutOf p t ≡ record { end = place p t; next = place p t; last = true }
 unfolding cutOf
 cut-none p t l h = rw (none-occurs p t l h, h) refl
 
-pub cut-some : (p t : Bytes) → 0 < length p → (place p t ≡ length t → ⊥) → cutOf p t ≡ record { at = place p t; next = place p t + length p; last = false }
+pub cut-some : (p t : Bytes) → 0 < length p → (place p t ≡ length t → ⊥) → cutOf p t ≡ record { end = place p t; next = place p t + length p; last = false }
 unfolding cutOf
 cut-some p t l h = rw (some-occurs p t l h) refl
 
@@ -51,8 +51,8 @@ last-clear p t r e h = cut-clear p t (sym (ap (λ (x : Piece). x .last) e) ∙ h
 
 -- r cuts the first piece off t; rest is what stands behind its separator
 pub record More (p t rest : Bytes) (r : Piece) : Type 0 where
-  pub pieces-are : pieces (split p t) ≡ take (r .at) t ∷ pieces (split p rest)
-  pub behind : r .at + length p ≡ r .next
+  pub pieces-are : pieces (split p t) ≡ take (r .end) t ∷ pieces (split p rest)
+  pub behind : r .end + length p ≡ r .next
   pub within : r .next ≤ length t
 
 cut-found : (p t : Bytes) → 0 < length p → occurs p t ≡ true → More p t (drop ((cutOf p t) .next) t) (cutOf p t)
@@ -66,13 +66,13 @@ pub cut-last : (p t : Bytes) (r : Piece) → r ≡ cutOf p t → r .last ≡ tru
 cut-last p t r e h = none-pieces p t (last-clear p t r e h)
 
 -- what is before the cut lies within the text, and is the text where there is no separator
-pub cut-within : (p t : Bytes) → (cutOf p t) .at ≤ length t
+pub cut-within : (p t : Bytes) → (cutOf p t) .end ≤ length t
 unfolding cutOf
 cut-within p t = ⊎-elim (λ h. rw h (place-le p t)) (λ h. rw h (omega arith)) (bcase (occurs p t))
 
-pub last-whole : (p t : Bytes) (r : Piece) → r ≡ cutOf p t → r .last ≡ true → r .at ≡ length t
+pub last-whole : (p t : Bytes) (r : Piece) → r ≡ cutOf p t → r .last ≡ true → r .end ≡ length t
 unfolding cutOf
-last-whole p t r e h = ap (λ (x : Piece). x .at) e ∙ rw (last-clear p t r e h) refl
+last-whole p t r e h = ap (λ (x : Piece). x .end) e ∙ rw (last-clear p t r e h) refl
 
 -- the same of what is left of a text from a place on
 module _ (p t : Bytes) (at : ℕ) (r : Piece) (e : r ≡ cutOf p (take (length t - at) (drop at t))) where
@@ -85,8 +85,8 @@ module _ (p t : Bytes) (at : ℕ) (r : Piece) (e : r ≡ cutOf p (take (length t
   pub rest-last : r .last ≡ true → pieces (split p (drop at t)) ≡ drop at t ∷ []
   rest-last h = cut-last p (drop at t) r e-rest h
 
-  pub rest-within : r .at ≤ length (drop at t)
+  pub rest-within : r .end ≤ length (drop at t)
   rest-within = rw e-rest (cut-within p (drop at t))
 
-  pub rest-whole : r .last ≡ true → r .at ≡ length (drop at t)
+  pub rest-whole : r .last ≡ true → r .end ≡ length (drop at t)
   rest-whole h = last-whole p (drop at t) r e-rest h

@@ -11,10 +11,10 @@ use Rattle.format.specs.Bytes.{Bytes, pieces, split}
 use Rattle.format.specs.Refusals.{tooFewSections, accepted, refused}
 use Rattle.format.specs.Reading.{bodyOf, partsOf}
 use Rattle.format.proofs.Lists.{bcase, rest-is}
-use Rattle.sections.specs.declared.cuts.Piece.{Piece}
-use Rattle.sections.specs.declared.cuts.Places.{Places}
-use Rattle.sections.specs.declared.cuts.Places.the-variants.{Few, Four}
-use Rattle.sections.specs.Cuts.{cutOf, separatorFor, lineEndFor, placed, placesOf}
+use Rattle.sections.specs.declared.Piece.{Piece}
+use Rattle.sections.specs.declared.Places.{Places}
+use Rattle.sections.specs.declared.Places.the-variants.{Few, Four}
+use Rattle.sections.specs.Cuts.{cutOf, separatorFor, lineEndFor, placed, placesOf, partsAt}
 use Rattle.sections.proofs.Cutting.{More, cut-more, cut-last, rest-more}
 
 pub separator-long : (crlf : Bool) → 0 < length (separatorFor crlf)
@@ -26,8 +26,8 @@ line-end-long true = omega arith
 line-end-long false = omega arith
 
 -- a piece is as long as the cut says
-more-long : (p t rest : Bytes) (r : Piece) → More p t rest r → length (take (r .at) t) ≡ r .at
-more-long p t rest r m = length-take-le (r .at) t (omega arith)
+more-long : (p t rest : Bytes) (r : Piece) → More p t rest r → length (take (r .end) t) ≡ r .end
+more-long p t rest r m = length-take-le (r .end) t (omega arith)
 
 -- a text of one, two and three pieces
 pub few-one : (p t : Bytes) → pieces (split p t) ≡ t ∷ [] → placesOf p t ≡ Few
@@ -37,23 +37,23 @@ few-one p t h = ap (placed (length p)) h
 module _ (p t u : Bytes) (a : Piece) (one : More p t u a) where
   pub few-two : pieces (split p u) ≡ u ∷ [] → placesOf p t ≡ Few
   unfolding placesOf placed
-  few-two h = ap (placed (length p)) (one .pieces-are ∙ ap (λ (s : List Bytes). take (a .at) t ∷ s) h)
+  few-two h = ap (placed (length p)) (one .pieces-are ∙ ap (λ (s : List Bytes). take (a .end) t ∷ s) h)
 
   module _ (v : Bytes) (b : Piece) (two : More p u v b) where
-    two-pieces : pieces (split p t) ≡ take (a .at) t ∷ take (b .at) u ∷ pieces (split p v)
-    two-pieces = one .pieces-are ∙ ap (λ (s : List Bytes). take (a .at) t ∷ s) (two .pieces-are)
+    two-pieces : pieces (split p t) ≡ take (a .end) t ∷ take (b .end) u ∷ pieces (split p v)
+    two-pieces = one .pieces-are ∙ ap (λ (s : List Bytes). take (a .end) t ∷ s) (two .pieces-are)
 
     pub few-three : pieces (split p v) ≡ v ∷ [] → placesOf p t ≡ Few
     unfolding placesOf placed
-    few-three h = ap (placed (length p)) (two-pieces ∙ ap (λ (s : List Bytes). take (a .at) t ∷ take (b .at) u ∷ s) h)
+    few-three h = ap (placed (length p)) (two-pieces ∙ ap (λ (s : List Bytes). take (a .end) t ∷ take (b .end) u ∷ s) h)
 
     -- and of four or more
     pub four : (w : Bytes) (c : Piece) → More p v w c
         → placesOf p t
-        ≡ Four (a .at) (a .next) (a .next + b .at) (a .next + b .next) (a .next + b .next + c .at) (a .next + b .next + c .next)
+        ≡ Four (a .end) (a .next) (a .next + b .end) (a .next + b .next) (a .next + b .next + c .end) (a .next + b .next + c .next)
     unfolding placesOf placed
     four w c three =
-        ap (placed (length p)) (two-pieces ∙ ap (λ (s : List Bytes). take (a .at) t ∷ take (b .at) u ∷ s) (three .pieces-are))
+        ap (placed (length p)) (two-pieces ∙ ap (λ (s : List Bytes). take (a .end) t ∷ take (b .end) u ∷ s) (three .pieces-are))
         ∙ rw (more-long p t u a one, more-long p u v b two, more-long p v w c three, one .behind, two .behind, three .behind) refl
 
 -- fewer than 4 sections: 2
@@ -90,15 +90,15 @@ Says p t (Four end1 start2 end2 start3 end3 rest) = Three p t end1 start2 end2 s
 three-are : (p t : Bytes) (a b c : Piece) → More p t (drop (a .next) t) a
     → More p (drop (a .next) t) (drop (a .next + b .next) t) b
     → More p (drop (a .next + b .next) t) (drop (a .next + b .next + c .next) t) c
-    → Three p t (a .at) (a .next) (a .next + b .at) (a .next + b .next) (a .next + b .next + c .at) (a .next + b .next + c .next)
+    → Three p t (a .end) (a .next) (a .next + b .end) (a .next + b .next) (a .next + b .next + c .end) (a .next + b .next + c .next)
 three-are p t a b c one two three =
     let h = length-drop (a .next) t in
     let k = length-drop (a .next + b .next) t in
-    let e : a .next + b .at - a .next ≡ b .at = omega arith in
-    let f : a .next + b .next + c .at - (a .next + b .next) ≡ c .at = omega arith in
+    let e : a .next + b .end - a .next ≡ b .end = omega arith in
+    let f : a .next + b .next + c .end - (a .next + b .next) ≡ c .end = omega arith in
     record {
       pieces-are = rw (e, f)
-          (two-pieces p t (drop (a .next) t) a one (drop (a .next + b .next) t) b two ∙ ap (λ (s : List Bytes). take (a .at) t ∷ take (b .at) (drop (a .next) t) ∷ s) (three .pieces-are));
+          (two-pieces p t (drop (a .next) t) a one (drop (a .next + b .next) t) b two ∙ ap (λ (s : List Bytes). take (a .end) t ∷ take (b .end) (drop (a .next) t) ∷ s) (three .pieces-are));
       first = omega arith;
       second = (omega arith, omega arith);
       third = (omega arith, omega arith);
@@ -150,3 +150,13 @@ module _ (p t : Bytes) (l : 0 < length p) where
       })
   unfolding partsOf
   four-accepted end1 start2 end2 start3 end3 rest h = ap partsOf (four-three end1 start2 end2 start3 end3 rest h .pieces-are)
+
+  -- what the places say is what reading makes of the pieces
+  pub parts-are : (q : Places) → q ≡ placesOf p t → partsAt p t q ≡ partsOf (pieces (split p t))
+  unfolding partsAt
+  parts-are Few h = sym (few-refused p t (sym h))
+  parts-are (Four end1 start2 end2 start3 end3 rest) h = sym (four-accepted end1 start2 end2 start3 end3 rest (sym h))
+
+  -- the two promises of the first three sections
+  pub placed-parts : (q : Places) → placesOf p t ≡ q → (q ≡ placesOf p t) × (partsAt p t q ≡ partsOf (pieces (split p t)))
+  placed-parts q h = (sym h, parts-are q (sym h))

@@ -1,13 +1,15 @@
 -- A text cut at its first separator, and the places of its first three sections. Assumes nothing.
-use Prim.Native.Nat.{ℕ, _+_}
+use Prim.Native.Nat.{ℕ, _+_, _-_}
 use mathlib.Core.Bool.{Bool, true, false}
 use mathlib.Core.List.{List, [], _∷_}
-use lib.ListN.{length}
+use lib.ListN.{length, take, drop}
 use Rattle.format.specs.Bytes.{Bytes, if_then_else_, LF, CRLF, LFLF, CRLFCRLF, occurs, pieces, split}
-use Rattle.sections.specs.declared.cuts.Piece.{Piece}
-use Rattle.sections.specs.declared.cuts.Places.{Places}
-use Rattle.sections.specs.declared.cuts.Places.the-variants.{Few, Four}
-use Rattle.sections.specs.Place.{place}
+use Rattle.format.specs.Reading.{Parts, bodyOf}
+use Rattle.format.specs.Refusals.{tooFewSections, Out, accepted, refused}
+use Rattle.search.specs.Place.{place}
+use Rattle.sections.specs.declared.Piece.{Piece}
+use Rattle.sections.specs.declared.Places.{Places}
+use Rattle.sections.specs.declared.Places.the-variants.{Few, Four}
 
 -- the separator of a text that has CRLFCRLF, or has it not
 abbrev pub separatorFor : Bool → Bytes
@@ -20,7 +22,7 @@ lineEndFor crlf = if crlf then CRLF else LF
 -- the first piece, and the place behind its separator
 unfoldable pub cutOf : Bytes → Bytes → Piece
 cutOf sep t =
-    if occurs sep t then record { at = place sep t; next = place sep t + length sep; last = false } else record { at = length t; next = length t; last = true }
+    if occurs sep t then record { end = place sep t; next = place sep t + length sep; last = false } else record { end = length t; next = length t; last = true }
 
 -- the places of the first three pieces, with separators of n bytes, where there are four or more
 unfoldable pub placed : ℕ → List Bytes → Places
@@ -34,3 +36,15 @@ placed n (a ∷ b ∷ c ∷ d ∷ rest) =
 
 unfoldable pub placesOf : Bytes → Bytes → Places
 placesOf sep t = placed (length sep) (pieces (split sep t))
+
+-- What the places say of a text, its sections being split at sep: 2 where there are too few, else the first three, and
+-- the body, which is the others joined.
+unfoldable pub partsAt : Bytes → Bytes → Places → Out Parts
+partsAt sep t Few = refused tooFewSections
+partsAt sep t (Four end1 start2 end2 start3 end3 rest) =
+    accepted (record {
+      mime = take end1 t;
+      headers = take (end2 - start2) (drop start2 t);
+      contents = take (end3 - start3) (drop start3 t);
+      body = bodyOf (pieces (split sep (drop rest t)));
+    })

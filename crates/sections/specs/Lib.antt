@@ -1,4 +1,1 @@
-pub mod Place
-pub mod Block
 pub mod Cuts
-pub mod Body

@@ -1,0 +1,79 @@
+// Document 01, "Reading": the search for a pattern. "The search leaves all its loops at the first match": `find_plain`.
+// `find` is the same by blocks, for long texts.
+
+ghost use mathlib.Core.Path.{_≡_};
+ghost use Prim.Native.Nat.{_<_, _≤_, _+_};
+ghost use lib.ListN.{length};
+ghost use Rattle.search.specs.Block.{near};
+ghost use Rattle.search.specs.Place.{place};
+
+// The place of the first occurrence of a pattern that is not empty, or the text's length.
+pub fn find_plain(text: &[u8], pattern: &[u8]) -> usize
+    requires { ⌜ 0 < length (now pattern) ⌝ }
+    ensures { λ r. ⌜ r ≡ place (now (pattern .entry)) (now (text .entry)) ⌝ }
+{
+    let mut place: usize = 0;
+    let at = 'places: loop {
+        if text.len() - place < pattern.len() {
+            break 'places text.len();
+        }
+        let mut k: usize = 0;
+        loop {
+            if k == pattern.len() {
+                break 'places place;
+            }
+            if text[place + k] != pattern[k] {
+                break;
+            }
+            k += 1;
+        }
+        place += 1;
+    };
+    at
+}
+
+// Whether at some of 64 places `first` stands in `text` and `last` in `behind`. No early exit: the loop is to be done
+// 16 places at a time.
+fn near_in(text: &[u8], behind: &[u8], first: u8, last: u8) -> bool
+    requires { ⌜ (length (now text) ≡ 64) × (length (now behind) ≡ 64) ⌝ }
+    ensures { λ r. ⌜ r ≡ near first last (now (text .entry)) (now (behind .entry)) ⌝ }
+{
+    let mut low: u8 = 255;
+    for k in 0..64 {
+        let differ = (text[k] ^ first) | (behind[k] ^ last);
+        if differ < low {
+            low = differ;
+        }
+    }
+    low == 0
+}
+
+// `find_plain`, by blocks of 64 places: one in which the pattern's first byte nowhere has its last byte at the pattern's
+// distance behind it is passed over.
+pub fn find(text: &[u8], pattern: &[u8]) -> usize
+    requires { ⌜ 0 < length (now pattern) ⌝ }
+    ensures { λ r. ⌜ r ≡ place (now (pattern .entry)) (now (text .entry)) ⌝ }
+{
+    let far = pattern.len() - 1;
+    if text.len() < far {
+        return text.len();
+    }
+    let first = pattern[0];
+    let last = pattern[far];
+    let mut at: usize = 0;
+    while at + far + 64 <= text.len() {
+        if near_in(
+            &text[at..at + 64],
+            &text[at + far..at + far + 64],
+            first,
+            last,
+        ) {
+            let place = find_plain(&text[at..at + far + 64], pattern);
+            if place < 64 {
+                return at + place;
+            }
+        }
+        at += 64;
+    }
+    at + find_plain(&text[at..], pattern)
+}

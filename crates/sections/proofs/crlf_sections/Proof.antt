@@ -1,0 +1,25 @@
+-- `crlf_sections` meets its contract: the place that `find` gives tells whether the pattern occurs.
+use mathlib.Core.Path.{sym, ap, _∙_}
+use Prim.Native.Nat.{ℕ}
+use native.Mathlib.Omega.{arith}
+use lib.ListN.{length}
+use borrow.Author.Needs.{needs}
+use lib.Dec.{ltb}
+use Rattle.format.specs.Bytes.{CRLFCRLF}
+use Rattle.sections.proofs.Found.{occurs-place}
+use Rattle.sections.proofs.crlf_sections.Statement.{statement}
+use Rattle.sections.proofs.crlf_sections.Tie as tie
+
+slice-aggregate-find : tie.Need-slice-aggregate-find
+slice-aggregate-find c = search needs
+
+find-requires : tie.Need-find-requires
+find-requires c κs = search needs
+
+returns : tie.Need-returns
+returns c =
+    let t = c .before .before .before .args .text .now in
+    ap (λ (n : ℕ). ltb n (length t)) (c .find .ensures) ∙ sym (occurs-place CRLFCRLF t (omega arith))
+
+pub crlf-sections-spec : {M : Type 1} → statement M
+crlf-sections-spec = tie.close (tie.spec slice-aggregate-find find-requires returns)
