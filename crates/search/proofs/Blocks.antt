@@ -17,7 +17,7 @@ use Rattle.format.proofs.Lists.{bcase, clash, and-left, and-right, and-intro, o
 use Rattle.search.specs.Block.{near}
 use Rattle.search.specs.Place.{place}
 use Rattle.search.proofs.Begins.{begins-byte}
-use Rattle.search.proofs.Places.{place-step, part-none}
+use Rattle.search.proofs.Places.{place-step, place-short, part-none}
 
 -- 0 exactly where x is a and y is z
 abbrev pub apart : ℕ → ℕ → ℕ → ℕ → ℕ
@@ -96,16 +96,20 @@ block-clear (suc n) m p (b ∷ t) l f h =
     let other = apart-begins m p (b ∷ t) l (both .0) in
     omega (arith, place-step p b t other, block-clear n m p t l (omega arith) (both .1))
 
--- The two ways past the block at a place of the text: no pair, and no occurrence.
-module _ (p t : Bytes) (at m : ℕ) (l : length p ≡ m + 1) (inside : at + m + 64 ≤ length t) where
-  pub past-clear : near (getD p 0 0) (getD p m 0) (take (at + 64 - at) (drop at t)) (take (at + m + 64 - (at + m)) (drop (at + m) t)) ≡ false
-      → place p (drop at t) ≡ 64 + place p (drop (at + 64) t)
-  past-clear h =
-      let e : at + 64 - at ≡ 64 = omega arith in
-      let f : at + m + 64 - (at + m) ≡ 64 = omega arith in
-      let g = rw (e, f, ← drop-drop m at t) at h in
-      block-clear 64 m p (drop at t) l (rw (length-drop at t) (omega arith)) g ∙ rw (drop-drop 64 at t) refl
+-- the pattern does not stand in a block with 64 places for it and no pair at them
+pub block-none : (p s : Bytes) → 0 < length p → length s ≡ length p + 63
+    → near (getD p 0 0) (getD p (length p - 1) 0) (take 64 s) (take (length s - (length p - 1)) (drop (length p - 1) s)) ≡ false
+    → place p s ≡ length s
+block-none p s l k h =
+    let m = length p - 1 in
+    let n : length s - m ≡ 64 = omega arith in
+    let rest = length-drop 64 s in
+    omega (arith, block-clear 64 m p s (omega arith) (omega arith) (rw n at h), place-short p (drop 64 s) (omega arith))
 
-  pub past-none : 64 ≤ place p (take (at + m + 64 - at) (drop at t)) → place p (drop at t) ≡ 64 + place p (drop (at + 64) t)
-  past-none h =
-      part-none 64 (at + m + 64 - at) m p (drop at t) (omega arith) l (rw (length-drop at t) (omega arith)) h ∙ rw (drop-drop 64 at t) refl
+-- it begins at none of the 64 places from the place at on: the search goes on behind them
+pub block-past : (p t : Bytes) (at : ℕ) → 0 < length p → at + (length p + 63) ≤ length t
+    → 64 ≤ place p (take (at + (length p + 63) - at) (drop at t))
+    → place p (drop at t) ≡ 64 + place p (drop (at + 64) t)
+block-past p t at l inside h =
+    let left = length-drop at t in
+    part-none 64 (at + (length p + 63) - at) (length p - 1) p (drop at t) (omega arith) (omega arith) (omega arith) h ∙ rw (drop-drop 64 at t) refl

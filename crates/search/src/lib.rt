@@ -48,30 +48,30 @@ fn near_in(text: &[u8], behind: &[u8], first: u8, last: u8) -> bool
     low == 0
 }
 
-// `find_plain`, by blocks of 64 places: one in which the pattern's first byte nowhere has its last byte at the pattern's
-// distance behind it is passed over.
+// `find_plain`, for a block with 64 places for the pattern. One in which the pattern's first byte nowhere has its last byte
+// at the pattern's distance behind it is passed over.
+fn find_in(block: &[u8], pattern: &[u8]) -> usize
+    requires { ⌜ (0 < length (now pattern)) × (length (now block) ≡ length (now pattern) + 63) ⌝ }
+    ensures { λ r. ⌜ r ≡ place (now (pattern .entry)) (now (block .entry)) ⌝ }
+{
+    let far = pattern.len() - 1;
+    if near_in(&block[..64], &block[far..], pattern[0], pattern[far]) {
+        return find_plain(block, pattern);
+    }
+    block.len()
+}
+
+// `find_plain`, by blocks of 64 places.
 pub fn find(text: &[u8], pattern: &[u8]) -> usize
     requires { ⌜ 0 < length (now pattern) ⌝ }
     ensures { λ r. ⌜ r ≡ place (now (pattern .entry)) (now (text .entry)) ⌝ }
 {
-    let far = pattern.len() - 1;
-    if text.len() < far {
-        return text.len();
-    }
-    let first = pattern[0];
-    let last = pattern[far];
+    let span = pattern.len() + 63;
     let mut at: usize = 0;
-    while at + far + 64 <= text.len() {
-        if near_in(
-            &text[at..at + 64],
-            &text[at + far..at + far + 64],
-            first,
-            last,
-        ) {
-            let place = find_plain(&text[at..at + far + 64], pattern);
-            if place < 64 {
-                return at + place;
-            }
+    while span <= text.len() - at {
+        let place = find_in(&text[at..at + span], pattern);
+        if place < 64 {
+            return at + place;
         }
         at += 64;
     }
