@@ -1,4 +1,4 @@
--- A text cut at its first separator, and the places of its first three sections. Assumes nothing.
+-- A text cut at its first separator, the places of its first three sections, and what reading makes of them. Assumes nothing.
 use Prim.Native.Nat.{ℕ, _+_, _-_}
 use mathlib.Core.Bool.{Bool, true, false}
 use mathlib.Core.List.{List, [], _∷_}
@@ -34,6 +34,7 @@ placed n (a ∷ b ∷ c ∷ d ∷ rest) =
     Four (length a) (length a + n) (length a + n + length b) (length a + n + (length b + n)) (length a + n + (length b + n) + length c)
     (length a + n + (length b + n) + (length c + n))
 
+-- the same of a text, split at sep
 unfoldable pub placesOf : Bytes → Bytes → Places
 placesOf sep t = placed (length sep) (pieces (split sep t))
 

@@ -29,7 +29,6 @@ answer : (c : tie.Start) (q : Places) → placesOf (sep-at c) (text-at c) ≡ q
 answer c q h = placed-parts (sep-at c) (text-at c) (separator-long (c .args .crlf)) q h
 
 -- the three cuts, each where it found a separator
-
 abbrev start2-at : tie.Else1 → ℕ
 start2-at c = c .before .cut-section .result .next
 
