@@ -124,12 +124,14 @@ loop-again c =
     let j = joined (rest-at at) in
     let x = opening (left-at at) in
     let y = joined (drop (at .loop .from + r .next) (rest-at at)) in
-    let e = long (c .before .before) in
+    let passed : at .loop .n + (r .end + 4) ≡ at .loop .n + length x = omega (arith, long (c .before .before)) in
     let next : drop (at .loop .n) j ≡ x ++ y = at .loop .inv .2 ∙ joined-next (left-at at) (drop (at .loop .from + r .next) (rest-at at)) r (put (c .before .before .before .before .before)) (c .before .before .if1 .left) m in (
       omega arith,
       omega (arith, next-fits j x y (at .loop .n) next (at .loop .inv .1)),
-      rw (sym e) (drop-next j x y (at .loop .n) next),
-      wrote (c .before .before .before .before .before) ∙ rw (sym e) (pasted-part j x y (at .loop .n) next (c .before .before .before .before .before .before .before .before .before .before .before .args .at) (c .before .before .before .before .before .before .before .before .before .before .before .args .out .now) (at .loop .inv .1) (omega arith)),
+      ap (λ (k : ℕ). drop k j) passed ∙ drop-next j x y (at .loop .n) next,
+      wrote (c .before .before .before .before .before)
+          ∙ pasted-part j x y (at .loop .n) next (c .before .before .before .before .before .before .before .before .before .before .before .args .at) (c .before .before .before .before .before .before .before .before .before .before .before .args .out .now) (at .loop .inv .1) (omega arith)
+          ∙ ap (λ (k : ℕ). pasted (c .before .before .before .before .before .before .before .before .before .before .before .args .at) (take k j) (c .before .before .before .before .before .before .before .before .before .before .before .args .out .now)) (sym passed),
     )
 
 pub join-into-spec : {M : Type 1} → statement M
