@@ -9,7 +9,7 @@ use native.Mathlib.Omega.{arith}
 use lib.ListN.{length}
 use borrow.Author.Tests.{le-ltb}
 use Rattle.format.specs.Bytes.{Bytes, over}
-use Rattle.format.specs.Refusals.{accepted, numbers, _carrying_, Refusal, Out, refused, table, textTooLong, tooFewSections, noMessageCpim, lacksColon, badEscape, nameEmpty, nameTooLong, nameControl, nameReserved, valueTooLong, contentControl, paramNameEmpty, paramNameTooLong, paramNameReserved, paramValueTooLong, paramValueReserved, typeEmpty, typeTooLong, typeControl, tooManyHeaders, tooManyParams, tooManyContents, bodyTooLong, notUtf8, noRoom, tooShort}
+use Rattle.format.specs.Refusals.{accepted, numbers, _carrying_, Out, refused}
 use Rattle.format.specs.Message.{Message, need, valid}
 use Rattle.format.specs.Calls.{Stores, enough, new}
 use Rattle.format.specs.Writing.{write, toText, writes}
@@ -19,7 +19,7 @@ use Rattle.format.specs.Lending.{lengths, makes, Made, ReadInto, ReadLea
 use Rattle.format.specs.Runs.{State, lend}
 use Rattle.format.specs.Demand3.{Begun, by-new, by-reading, History, comesBack, Demand3, RoomFor}
 use Rattle.format.specs.declared.Numbers.{Numbers}
-use Rattle.format.proofs.Steps.{accepted-same, then-passed, refuseIf-passed}
+use Rattle.format.proofs.Steps.{accepted-same, then-passed, refuseIf-passed, refused-number}
 use Rattle.format.proofs.Messages.Accepted.{new-accepted}
 use Rattle.format.proofs.Messages.Layout.{layout-length, over-length, body-laid, laid-holds}
 use Rattle.format.proofs.Messages.Unique.{holds-unique}
@@ -100,36 +100,6 @@ same-text m k vm vk cm ck h =
     let both : Stores = record { head = need m + need k; body = length (m .body) + length (k .body) } in
     accepted-same m k
     (sym (reads-back m both vm cm (omega arith, omega arith)) ∙ (ap (λ t. read t both) h ∙ reads-back k both vk ck (omega arith, omega arith)))
-
--- no refusal has the number 0
-refused-number : (r : Refusal) → (table r) .number ≡ 0 → ⊥
-unfolding table
-refused-number (textTooLong n) h = omega arith
-refused-number tooFewSections h = omega arith
-refused-number noMessageCpim h = omega arith
-refused-number lacksColon h = omega arith
-refused-number badEscape h = omega arith
-refused-number nameEmpty h = omega arith
-refused-number (nameTooLong n) h = omega arith
-refused-number nameControl h = omega arith
-refused-number nameReserved h = omega arith
-refused-number (valueTooLong n) h = omega arith
-refused-number contentControl h = omega arith
-refused-number paramNameEmpty h = omega arith
-refused-number (paramNameTooLong n) h = omega arith
-refused-number paramNameReserved h = omega arith
-refused-number (paramValueTooLong n) h = omega arith
-refused-number paramValueReserved h = omega arith
-refused-number typeEmpty h = omega arith
-refused-number (typeTooLong n) h = omega arith
-refused-number typeControl h = omega arith
-refused-number (tooManyHeaders n) h = omega arith
-refused-number (tooManyParams n) h = omega arith
-refused-number (tooManyContents n) h = omega arith
-refused-number (bodyTooLong n) h = omega arith
-refused-number notUtf8 h = omega arith
-refused-number (noRoom n) h = omega arith
-refused-number (tooShort n) h = omega arith
 
 -- what is answered with 0 is accepted
 accepted-zero : {A : Type 0} (o : Out A) → numbers o ≡ 0 carrying 0 → (a : A) × (o ≡ accepted a)

@@ -1,6 +1,7 @@
 -- The theorems about the definitions, each resting on those above it.
 pub mod Lists
 pub mod Steps
+pub mod Answers
 pub mod Characters
 pub mod Escaping
 pub mod Splitting

@@ -5,10 +5,10 @@ use mathlib.Core.Path.{_≡_, refl, ap}
 use mathlib.Core.Bool.{Bool, true, false, not, false≢true}
 use mathlib.Core.List.{List, [], _∷_}
 use native.Mathlib.Omega.{arith}
-use lib.Dec.{leb}
-use borrow.Author.Tests.{leb-true, le-leb, not-false}
+use lib.Dec.{leb, eqb}
+use borrow.Author.Tests.{leb-true, le-leb, ne-eqb, not-false}
 use Rattle.format.specs.Bytes.{if_then_else_, all}
-use Rattle.format.specs.Refusals.{Refusal, Out, accepted, refused, Check, refuseIf, atMost, passes, _>>_, _>>=_}
+use Rattle.format.specs.Refusals.{Refusal, textTooLong, tooFewSections, noMessageCpim, lacksColon, badEscape, nameEmpty, nameTooLong, nameControl, nameReserved, valueTooLong, contentControl, paramNameEmpty, paramNameTooLong, paramNameReserved, paramValueTooLong, paramValueReserved, typeEmpty, typeTooLong, typeControl, tooManyHeaders, tooManyParams, tooManyContents, bodyTooLong, notUtf8, noRoom, tooShort, table, Out, accepted, refused, numbers, Check, refuseIf, atMost, passes, _>>_, _>>=_}
 use Rattle.format.specs.Reading.{each}
 use Rattle.format.proofs.Lists.{all-head, all-tail}
 
@@ -78,6 +78,42 @@ atMost-passes limit r n h = leb-true n limit (refuseUnless-passes (leb n limit) 
 pub atMost-passed : (limit : ℕ) (r : ℕ → Refusal) (n : ℕ) → n ≤ limit → passes (atMost limit r n) ≡ true
 unfolding atMost
 atMost-passed limit r n h = refuseUnless-passed (leb n limit) (r n) (le-leb n limit h)
+
+-- no refusal has the number 0
+pub refused-number : (r : Refusal) → (table r) .number ≡ 0 → ⊥
+unfolding table
+refused-number (textTooLong n) h = omega arith
+refused-number tooFewSections h = omega arith
+refused-number noMessageCpim h = omega arith
+refused-number lacksColon h = omega arith
+refused-number badEscape h = omega arith
+refused-number nameEmpty h = omega arith
+refused-number (nameTooLong n) h = omega arith
+refused-number nameControl h = omega arith
+refused-number nameReserved h = omega arith
+refused-number (valueTooLong n) h = omega arith
+refused-number contentControl h = omega arith
+refused-number paramNameEmpty h = omega arith
+refused-number (paramNameTooLong n) h = omega arith
+refused-number paramNameReserved h = omega arith
+refused-number (paramValueTooLong n) h = omega arith
+refused-number paramValueReserved h = omega arith
+refused-number typeEmpty h = omega arith
+refused-number (typeTooLong n) h = omega arith
+refused-number typeControl h = omega arith
+refused-number (tooManyHeaders n) h = omega arith
+refused-number (tooManyParams n) h = omega arith
+refused-number (tooManyContents n) h = omega arith
+refused-number (bodyTooLong n) h = omega arith
+refused-number notUtf8 h = omega arith
+refused-number (noRoom n) h = omega arith
+refused-number (tooShort n) h = omega arith
+
+-- a check passes where its number is 0
+pub passes-number : (c : Check) → eqb (numbers c .number) 0 ≡ passes c
+unfolding numbers passes
+passes-number (accepted a) = refl
+passes-number (refused r) = ne-eqb (table r .number) 0 (refused-number r)
 
 -- What every accepted step keeps, the whole keeps; Q is what is known of the elements.
 module _ {A B : Type 0} (P : B → Type 0) (Q : A → Bool) (run : A → B → Out B)

@@ -12,7 +12,24 @@ use Rattle.format.specs.Writing.{toText, writes}
 use Rattle.format.specs.Reading.{read}
 use Rattle.format.specs.Layout.{Lent, Held, HeldAlone, layout, recordOf, layoutAlone, headerOf, emptyMessage, emptyHeader}
 use Rattle.format.specs.declared.Numbers.{Numbers}
+use Rattle.format.specs.declared.CpimMessage.{CpimMessage}
 use Rattle.format.specs.declared.CpimHeader.{CpimHeader}
+use Rattle.format.specs.declared.Answer.{Answer}
+use Rattle.format.specs.declared.HeaderAnswer.{HeaderAnswer}
+
+-- What is lent to a call that takes the head store alone, and to one that takes both.
+abbrev pub headLent : CpimMessage → Bytes → Lent
+headLent m head = record { message = m; head = head; body = none }
+
+abbrev pub bothLent : CpimMessage → Bytes → Bytes → Lent
+bothLent m head body = record { message = m; head = head; body = some body }
+
+-- the two numbers of an answer
+abbrev pub numbersOf : Answer → Numbers
+numbersOf a = record { number = a .number; carried = a .carried }
+
+abbrev pub headerNumbers : HeaderAnswer → Numbers
+headerNumbers a = record { number = a .number; carried = a .carried }
 
 -- the length of a store; one that is not lent counts as empty
 unfoldable pub lengthOf : Option Bytes → ℕ

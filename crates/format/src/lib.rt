@@ -3,6 +3,7 @@
 // are document 01.
 
 // What a call answers: the refusal's number, 0 where it is accepted, and the carried number.
+#[repr(C)]
 pub struct Numbers {
     pub number: u64,
     pub carried: u64,
@@ -10,6 +11,7 @@ pub struct Numbers {
 
 // A message: length of its type; its headers and the bytes that they take in the head store; its content headers and
 // theirs; length of its body.
+#[repr(C)]
 pub struct CpimMessage {
     pub typelen: usize,
     pub headers: usize,
@@ -20,8 +22,25 @@ pub struct CpimMessage {
 }
 
 // A header alone: length of its value; its parameters; the bytes that it takes in the header store, 0 where nothing is held.
+#[repr(C)]
 pub struct CpimHeader {
     pub valuelen: usize,
     pub params: usize,
     pub size: usize,
+}
+
+// What a call on a message answers: the two numbers, and the record that it hands back.
+#[repr(C)]
+pub struct Answer {
+    pub number: u64,
+    pub carried: u64,
+    pub message: CpimMessage,
+}
+
+// What a call on a header alone answers.
+#[repr(C)]
+pub struct HeaderAnswer {
+    pub number: u64,
+    pub carried: u64,
+    pub header: CpimHeader,
 }

@@ -1,6 +1,6 @@
--- The tests that the validators make, as the definitions make them: an empty text, a byte of a class, a number that fits.
+-- The tests that the validators make, as the definitions make them: an empty text, a byte of a class.
 -- Assumes nothing.
-use Prim.Native.Nat.{ℕ, suc, _+_, _-_, _^_, _≤_, _<_, min}
+use Prim.Native.Nat.{ℕ, suc, _+_, _≤_, _<_}
 use mathlib.Core.Path.{_≡_, refl, sym}
 use mathlib.Core.Bool.{Bool, true, false, _||_, or-assoc, or-false}
 use mathlib.Core.List.{[], _∷_}
@@ -9,7 +9,6 @@ use native.Mathlib.Omega.{arith}
 use lib.ListN.{length, drop, getD, drop-of-length-le}
 use lib.Seq.{drop-cons}
 use Rattle.format.specs.Bytes.{Bytes, isEmpty, any}
-use Rattle.format.specs.Refusals.{_carrying_}
 
 pub empty-is : (s : Bytes) → length s ≡ 0 → isEmpty s ≡ true
 unfolding isEmpty
@@ -20,12 +19,6 @@ pub empty-not : (s : Bytes) → (length s ≡ 0 → ⊥) → isEmpty s ≡ false
 unfolding isEmpty
 empty-not [] h = absurd (h refl)
 empty-not (b ∷ s) h = refl
-
--- a number below 2 to the 64 is carried as it is
-pub carried : (k n : ℕ) → n < 2 ^ 64 → k carrying n ≡ record { number = k; carried = n }
-carried k n h =
-    let e : min n (2 ^ 64 - 1) ≡ n = omega arith in
-    λ i. record { number = k; carried = e i }
 
 -- one byte more is searched; f says whether one was found before
 pub any-step : (p : ℕ → Bool) (s : Bytes) (i : ℕ) (f : Bool) → i < length s

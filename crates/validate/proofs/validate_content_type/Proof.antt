@@ -6,7 +6,8 @@ use borrow.Author.Needs.{needs}
 use borrow.Author.Tests.{le-leb, lt-leb}
 use Rattle.format.specs.Refusals.{numbers, table, refuseIf, atMost, _>>_}
 use Rattle.format.specs.Validators.{contentType}
-use Rattle.validate.proofs.Tests.{empty-is, empty-not, carried}
+use Rattle.format.proofs.Answers.{carried}
+use Rattle.validate.proofs.Tests.{empty-is, empty-not}
 use Rattle.validate.proofs.validate_content_type.Statement.{statement}
 use Rattle.validate.proofs.validate_content_type.Tie as tie
 

@@ -5,7 +5,7 @@ use lib.ListN.{length}
 use borrow.Author.Tests.{le-leb, lt-leb}
 use Rattle.format.specs.Refusals.{numbers, table, refuseIf, atMost}
 use Rattle.format.specs.Validators.{headerValue}
-use Rattle.validate.proofs.Tests.{carried}
+use Rattle.format.proofs.Answers.{carried}
 use Rattle.validate.proofs.validate_cpim_header_value.Statement.{statement}
 use Rattle.validate.proofs.validate_cpim_header_value.Tie as tie
 

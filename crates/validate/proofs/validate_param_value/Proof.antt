@@ -6,7 +6,7 @@ use borrow.Author.Needs.{needs}
 use borrow.Author.Tests.{le-leb, lt-leb}
 use Rattle.format.specs.Refusals.{numbers, table, refuseIf, atMost, _>>_}
 use Rattle.format.specs.Validators.{paramValue}
-use Rattle.validate.proofs.Tests.{carried}
+use Rattle.format.proofs.Answers.{carried}
 use Rattle.validate.proofs.validate_param_value.Statement.{statement}
 use Rattle.validate.proofs.validate_param_value.Tie as tie
 
