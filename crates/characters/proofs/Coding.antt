@@ -17,7 +17,7 @@ use Rattle.format.specs.Bytes.{Bytes, if_then_else_, all}
 use Rattle.format.specs.Characters.{Range, _to_, within, Row, table-3-7, trailIn, trailOf, fits, matched, wellFormed}
 use Rattle.format.proofs.Lists.{bcase, and-left, and-right, all-head, all-tail, all-getD}
 use Rattle.format.proofs.Characters.Table.{trail-ascii, noRow, rowOf, within-below, within-above, within-intro}
-use Rattle.characters.specs.Coded.{padded, coded, codedAll, codedRows, matchedEnds, trailAt}
+use Rattle.characters.specs.Coded.{padded, coded, codedAll, codedRows, matchedEnds, firstTrail, trailAt, rowIn, leadRow}
 use Rattle.characters.specs.Lengths.{subpartLen, charLen}
 
 coded-getD : (rows : List Row) (i : ℕ) → i < length rows → getD (codedAll rows) i [] ≡ coded (getD rows i noRow)
@@ -37,18 +37,28 @@ pub row-lead :
 row-lead rows i b e h = rw (coded-row rows i e h) refl
 
 -- a lead byte within row i picks it
-pub row-hit : (i b : ℕ) → i < 9 → within b (rowOf i .lead) ≡ true → trailIn (drop i table-3-7) b ≡ trailAt i
-unfolding trailIn trailAt
+pub row-hit : (i b : ℕ) → i < 9 → within b (rowOf i .lead) ≡ true → rowIn (drop i table-3-7) b ≡ 0
+unfolding rowIn
 row-hit i b h w = rw (drop-cons table-3-7 i noRow h, w) refl
 
 -- and one that is not is left to the rows behind
-pub row-miss : (i b : ℕ) → i < 9 → within b (rowOf i .lead) ≡ false → trailIn (drop i table-3-7) b ≡ trailIn (drop (i + 1) table-3-7) b
-unfolding trailIn
+pub row-miss : (i b : ℕ) → i < 9 → within b (rowOf i .lead) ≡ false → rowIn (drop i table-3-7) b ≡ suc (rowIn (drop (i + 1) table-3-7) b)
+unfolding rowIn
 row-miss i b h w = rw (add-one i, drop-cons table-3-7 i noRow h, w) refl
 
-pub row-none : (b : ℕ) → trailIn (drop 9 table-3-7) b ≡ trailAt 9
-unfolding trailIn trailAt
+pub row-none : (b : ℕ) → rowIn (drop 9 table-3-7) b ≡ 0
+unfolding rowIn
 row-none b = refl
+
+-- the row that a byte picks has the trailing ranges that the table gives the byte
+trail-in : (rs : List Row) (b : ℕ) → trailIn rs b ≡ firstTrail (drop (rowIn rs b) rs)
+unfolding trailIn rowIn
+trail-in [] b = refl
+trail-in (r ∷ rs) b = ⊎-elim (λ w. rw w refl) (λ w. rw w (trail-in rs b)) (bcase (within b (r .lead)))
+
+pub row-picks : (b i : ℕ) → i ≡ leadRow b → trailOf b ≡ trailAt i
+unfolding leadRow trailAt
+row-picks b i e = rw e (trail-in table-3-7 b)
 
 -- the trailing ranges of a row and of what stands for it where there is none
 pub trail-at : (i : ℕ) → i < 9 → trailAt i ≡ some (rowOf i .trail)

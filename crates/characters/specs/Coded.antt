@@ -38,3 +38,12 @@ firstTrail (r ∷ rs) = some (r .trail)
 -- the trailing ranges of row i of Table 3-7, from 0
 unfoldable pub trailAt : ℕ → Option (List Range)
 trailAt i = firstTrail (drop i table-3-7)
+
+-- how many rows stand before the first whose lead range holds b; all where none does
+unfoldable pub rowIn : List Row → ℕ → ℕ
+rowIn [] b = 0
+rowIn (r ∷ rs) b = if within b (r .lead) then 0 else suc (rowIn rs b)
+
+-- the row of Table 3-7 whose lead range holds b, from 0; 9 where none does
+unfoldable pub leadRow : ℕ → ℕ
+leadRow b = rowIn table-3-7 b

@@ -2,8 +2,8 @@
 ghost use mathlib.Core.Path.{_≡_};
 ghost use Prim.Native.Nat.{_+_, _≤_, _<_};
 ghost use lib.ListN.{length, drop, getD};
-ghost use Rattle.format.specs.Characters.{_to_, within, trailOf};
-ghost use Rattle.characters.specs.Coded.{codedRows, matchedEnds, trailAt};
+ghost use Rattle.format.specs.Characters.{_to_, within};
+ghost use Rattle.characters.specs.Coded.{codedRows, matchedEnds, leadRow};
 ghost use Rattle.characters.specs.Lengths.{subpartLen, charLen};
 
 // Table 3-7: a row has the ends of its lead range and of three trailing ranges. 255, 0 is no range: no byte is within it.
@@ -32,7 +32,7 @@ fn leads(row: [u8; 8], b: u8) -> bool
 // The row whose lead range holds b; 9 where there is none.
 fn row_of(rows: &[[u8; 8]; 9], b: u8) -> usize
     requires { ⌜ now rows ≡ codedRows ⌝ }
-    ensures { λ r. ⌜ trailOf b ≡ trailAt r ⌝ }
+    ensures { λ r. ⌜ r ≡ leadRow b ⌝ }
 {
     let mut i = 0;
     while i < 9 {

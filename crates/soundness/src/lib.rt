@@ -1,14 +1,13 @@
 // Whether the bytes of a block may stand where they do, each judged by the three bytes before it, without a branch that ends the
 // loop early, so that many are judged at a time.
 ghost use mathlib.Core.Path.{_≡_};
-ghost use Prim.Native.Nat.{ℕ, _≤_, _<_};
-ghost use mathlib.Core.Logic.{_⊎_};
+ghost use mathlib.Core.Bool.{not};
 ghost use lib.ListN.{length};
-ghost use Rattle.soundness.specs.Sound.{Trailing, Owed, Sound, SoundAt};
+ghost use Rattle.soundness.specs.Sound.{bit, isTrailing, isOwed, leastBehind, greatestBehind, isSound, allSound};
 
 // 1 where b is a trailing byte, else 0.
 fn trails(b: u8) -> u8
-    ensures { λ r. ⌜ ((r ≡ 0 → (b < 0x80) ⊎ (0xC0 ≤ b)) × (r ≡ 1 → Trailing b)) ⌝ }
+    ensures { λ r. ⌜ r ≡ bit (isTrailing b) ⌝ }
 {
     if b < 0x80 {
         return 0;
@@ -21,7 +20,7 @@ fn trails(b: u8) -> u8
 
 // 1 where a trailing byte is to follow p1, with p2 before p1 and p3 before p2, else 0.
 fn owed(p3: u8, p2: u8, p1: u8) -> u8
-    ensures { λ r. ⌜ Owed p3 p2 p1 r ⌝ }
+    ensures { λ r. ⌜ r ≡ bit (isOwed p3 p2 p1) ⌝ }
 {
     if 0xC2 <= p1 {
         return 1;
@@ -37,7 +36,7 @@ fn owed(p3: u8, p2: u8, p1: u8) -> u8
 
 // The least and the greatest byte that may follow p1.
 fn least_behind(p1: u8) -> u8
-    ensures { λ r. ⌜ ((p1 ≡ 0xE0 → r ≡ 0xA0) × (p1 ≡ 0xF0 → r ≡ 0x90)) ⌝ }
+    ensures { λ r. ⌜ r ≡ leastBehind p1 ⌝ }
 {
     if p1 == 0xE0 {
         return 0xA0;
@@ -49,7 +48,7 @@ fn least_behind(p1: u8) -> u8
 }
 
 fn greatest_behind(p1: u8) -> u8
-    ensures { λ r. ⌜ ((p1 ≡ 0xED → r ≡ 0x9F) × (p1 ≡ 0xF4 → r ≡ 0x8F) × (r ≤ 0xF4)) ⌝ }
+    ensures { λ r. ⌜ r ≡ greatestBehind p1 ⌝ }
 {
     if p1 == 0xED {
         return 0x9F;
@@ -62,7 +61,7 @@ fn greatest_behind(p1: u8) -> u8
 
 // 0 where b may stand behind the three bytes before it, else 1.
 fn fault(p3: u8, p2: u8, p1: u8, b: u8) -> u8
-    ensures { λ r. ⌜ (r ≡ 0 → Sound p3 p2 p1 b) ⌝ }
+    ensures { λ r. ⌜ r ≡ bit (not (isSound p3 p2 p1 b)) ⌝ }
 {
     if trails(b) != owed(p3, p2, p1) {
         return 1;
@@ -82,10 +81,10 @@ fn fault(p3: u8, p2: u8, p1: u8, b: u8) -> u8
     0
 }
 
-// 0 where each byte of a block may stand behind the three before it; the first three only stand before.
+// 0 where each byte of a block may stand behind the three before it, else 1; the first three only stand before.
 pub fn faults(part: &[u8]) -> u8
     requires { ⌜ length (now part) ≡ 67 ⌝ }
-    ensures { λ r. ⌜ (r ≡ 0 → (k : ℕ) → k < 64 → SoundAt (now (part .entry)) k) ⌝ }
+    ensures { λ r. ⌜ r ≡ bit (not (allSound 64 (now (part .entry)))) ⌝ }
 {
     let mut worst = 0u8;
     for k in 0..64 {

@@ -1,15 +1,16 @@
 // UTF-8 over whole texts: by blocks as far as they go, and characters one by one elsewhere.
 ghost use mathlib.Core.Path.{_≡_};
-ghost use Prim.Native.Nat.{_≤_, _<_};
+ghost use Prim.Native.Nat.{_≤_};
 ghost use lib.ListN.{length};
 ghost use Rattle.format.specs.Characters.{isUtf8};
 ghost use Rattle.characters.specs.Coded.{codedRows};
-ghost use Rattle.characters.specs.Lengths.{utf8End, Passed};
+ghost use Rattle.characters.specs.Lengths.{utf8End};
+ghost use Rattle.utf8.specs.Parts.{partEnd, charsEnd};
 
 // Passes over characters, one by one, until one ends at `stop` or behind it, or an ill-formed subpart stands there.
 fn past_chars(rows: &[[u8; 8]; 9], s: &[u8], from: usize, stop: usize) -> usize
     requires { ⌜ (now rows ≡ codedRows) × (from ≤ length (now s)) × (stop ≤ length (now s)) ⌝ }
-    ensures { λ r. ⌜ Passed (now (s .entry)) from r × (r < stop → utf8End (now (s .entry)) r ≡ r) ⌝ }
+    ensures { λ r. ⌜ r ≡ charsEnd (now (s .entry)) from stop ⌝ }
 {
     let mut at = from;
     while at < stop {
@@ -25,7 +26,7 @@ fn past_chars(rows: &[[u8; 8]; 9], s: &[u8], from: usize, stop: usize) -> usize
 // The same where all up to `stop` may be ASCII.
 fn past_part(rows: &[[u8; 8]; 9], s: &[u8], from: usize, stop: usize) -> usize
     requires { ⌜ (now rows ≡ codedRows) × (from ≤ stop) × (stop ≤ length (now s)) ⌝ }
-    ensures { λ r. ⌜ Passed (now (s .entry)) from r × (r < stop → utf8End (now (s .entry)) r ≡ r) ⌝ }
+    ensures { λ r. ⌜ r ≡ charsEnd (now (s .entry)) from stop ⌝ }
 {
     let part = &s[from..stop];
     if utf8_blocks::largest(part) < 0x80 {
@@ -37,7 +38,7 @@ fn past_part(rows: &[[u8; 8]; 9], s: &[u8], from: usize, stop: usize) -> usize
 // The end of the block of 64 bytes that starts at a place; the text's end where it is nearer.
 fn block_end(s: &[u8], at: usize) -> usize
     requires { ⌜ at ≤ length (now s) ⌝ }
-    ensures { λ r. ⌜ (at ≤ r) × (r ≤ length (now (s .entry))) × (at < length (now (s .entry)) → at < r) ⌝ }
+    ensures { λ r. ⌜ r ≡ partEnd (now (s .entry)) at ⌝ }
 {
     if s.len() - at < 64 {
         return s.len();

@@ -1,3 +1,4 @@
 pub mod Whole
 pub mod Walk
 pub mod Blocks
+pub mod Answers

@@ -2,16 +2,12 @@
 // block that fails is left to the caller, who goes on character by character.
 ghost use mathlib.Core.Path.{_≡_};
 ghost use Prim.Native.Nat.{_+_, _≤_};
-ghost use mathlib.Core.Bool.{true};
-ghost use lib.Dec.{leb};
 ghost use lib.ListN.{length};
-ghost use Rattle.format.specs.Bytes.{all};
-ghost use Rattle.characters.specs.Lengths.{Passed};
-ghost use Rattle.utf8_blocks.specs.Blocks.{Settled};
+ghost use Rattle.utf8_blocks.specs.Blocks.{largestOf, isSettled, soundEnd, blockEnd, blocksEnd};
 
 // The largest byte of a part, without an early exit, so that the bytes are compared many at a time.
 pub fn largest(part: &[u8]) -> u8
-    ensures { λ r. ⌜ all (λ b. leb b r) (now (part .entry)) ≡ true ⌝ }
+    ensures { λ r. ⌜ r ≡ largestOf (now (part .entry)) ⌝ }
 {
     let mut top = 0u8;
     for k in 0..part.len() {
@@ -26,7 +22,7 @@ pub fn largest(part: &[u8]) -> u8
 // Whether no character reaches over the place three behind `from`.
 fn is_settled(s: &[u8], from: usize) -> bool
     requires { ⌜ from + 3 ≤ length (now s) ⌝ }
-    ensures { λ r. ⌜ (r ≡ true → Settled (now (s .entry)) from) ⌝ }
+    ensures { λ r. ⌜ r ≡ isSettled (now (s .entry)) from ⌝ }
 {
     if 0xF0 <= s[from] {
         return false;
@@ -39,8 +35,8 @@ fn is_settled(s: &[u8], from: usize) -> bool
 
 // Passes over the 64 bytes three behind `from`, but for a character that reaches over their end; over none where one is not sound.
 fn past_sound(s: &[u8], from: usize) -> usize
-    requires { ⌜ (from + 67 ≤ length (now s)) × Settled (now s) from ⌝ }
-    ensures { λ r. ⌜ Passed (now (s .entry)) (from + 3) r ⌝ }
+    requires { ⌜ from + 67 ≤ length (now s) ⌝ }
+    ensures { λ r. ⌜ r ≡ soundEnd (now (s .entry)) from ⌝ }
 {
     let end = from + 67;
     let part = &s[from..end];
@@ -62,7 +58,7 @@ fn past_sound(s: &[u8], from: usize) -> usize
 // Passes over a block of 64 bytes that are ASCII or sound, or over none.
 fn past_block(s: &[u8], at: usize) -> usize
     requires { ⌜ at + 64 ≤ length (now s) ⌝ }
-    ensures { λ r. ⌜ Passed (now (s .entry)) at r ⌝ }
+    ensures { λ r. ⌜ r ≡ blockEnd (now (s .entry)) at ⌝ }
 {
     let end = at + 64;
     let part = &s[at..end];
@@ -82,7 +78,7 @@ fn past_block(s: &[u8], at: usize) -> usize
 // Passes over blocks as far as they go.
 pub fn past_blocks(s: &[u8], from: usize) -> usize
     requires { ⌜ from ≤ length (now s) ⌝ }
-    ensures { λ r. ⌜ Passed (now (s .entry)) from r ⌝ }
+    ensures { λ r. ⌜ r ≡ blocksEnd (now (s .entry)) from ⌝ }
 {
     let mut at = from;
     while 64 <= s.len() - at {

@@ -4,8 +4,9 @@
 use mathlib.Core.Path.{_≡_, _∙_}
 use Prim.Native.Nat.{_+_}
 use native.Mathlib.Omega.{arith}
+use lib.ListN.{getD}
 use borrow.Author.Needs.{needs}
-use Rattle.characters.proofs.Coding.{past-end, char-ascii, char-none, char-whole, char-part, row-short, row-filled, row-more}
+use Rattle.characters.proofs.Coding.{past-end, row-picks, char-ascii, char-none, char-whole, char-part, row-short, row-filled, row-more}
 use Rattle.characters.proofs.char_len_in.Statement.{statement}
 use Rattle.characters.proofs.char_len_in.Tie as tie
 
@@ -24,7 +25,7 @@ row-of-requires c κs = search needs
 returns-3 : tie.Need-returns-3
 returns-3 c =
     let z = c .before .before .before .before .before .before in
-    char-none (z .args .s .now) (z .args .at) (c .before .row-of .result) (omega arith) (c .before .row-of .ensures) (omega arith)
+    char-none (z .args .s .now) (z .args .at) (c .before .row-of .result) (omega arith) (row-picks (getD (z .args .s .now) (z .args .at) 0) (c .before .row-of .result) (c .before .row-of .ensures)) (omega arith)
 
 mul-row : tie.Need-mul-row
 mul-row c = search needs
@@ -42,7 +43,7 @@ returns-4 : tie.Need-returns-4
 returns-4 c =
     let z = c .before .before .before .before .before .before .before .before .before in
     let h : 4 ≡ c .before .trailing-in .result + 1 = omega arith in
-    h ∙ char-whole (z .args .s .now) (z .args .at) (c .before .before .before .before .row-of .result) (omega arith) (c .before .before .before .before .row-of .ensures) (z .args .rows .now) (c .before .trailing-in .result) (z .pre) (omega arith) (c .before .trailing-in .ensures .1) (omega (arith, row-short (c .before .before .before .before .row-of .result) (omega arith)))
+    h ∙ char-whole (z .args .s .now) (z .args .at) (c .before .before .before .before .row-of .result) (omega arith) (row-picks (getD (z .args .s .now) (z .args .at) 0) (c .before .before .before .before .row-of .result) (c .before .before .before .before .row-of .ensures)) (z .args .rows .now) (c .before .trailing-in .result) (z .pre) (omega arith) (c .before .trailing-in .ensures .1) (omega (arith, row-short (c .before .before .before .before .row-of .result) (omega arith)))
 
 mul-if5 : tie.Need-mul-if5
 mul-if5 c = search needs
@@ -59,12 +60,12 @@ add-result c = search needs
 returns-5 : tie.Need-returns-5
 returns-5 c =
     let z = c .before .before .before .before .before .before .before .before .before .before in
-    char-whole (z .args .s .now) (z .args .at) (c .before .before .before .before .before .row-of .result) (omega arith) (c .before .before .before .before .before .row-of .ensures) (z .args .rows .now) (c .before .before .trailing-in .result) (z .pre) (omega arith) (c .before .before .trailing-in .ensures .1) (row-filled (z .args .rows .now) (c .before .before .before .before .before .row-of .result) (c .before .before .trailing-in .result) (z .pre) (omega arith) (omega arith) (c .if5 .taken))
+    char-whole (z .args .s .now) (z .args .at) (c .before .before .before .before .before .row-of .result) (omega arith) (row-picks (getD (z .args .s .now) (z .args .at) 0) (c .before .before .before .before .before .row-of .result) (c .before .before .before .before .before .row-of .ensures)) (z .args .rows .now) (c .before .before .trailing-in .result) (z .pre) (omega arith) (c .before .before .trailing-in .ensures .1) (row-filled (z .args .rows .now) (c .before .before .before .before .before .row-of .result) (c .before .before .trailing-in .result) (z .pre) (omega arith) (omega arith) (c .if5 .taken))
 
 returns-6 : tie.Need-returns-6
 returns-6 c =
     let z = c .before .before .before .before .before .before .before .before .before .before in
-    char-part (z .args .s .now) (z .args .at) (c .before .before .before .before .before .row-of .result) (omega arith) (c .before .before .before .before .before .row-of .ensures) (z .args .rows .now) (c .before .before .trailing-in .result) (z .pre) (omega arith) (c .before .before .trailing-in .ensures .1) (row-more (z .args .rows .now) (c .before .before .before .before .before .row-of .result) (c .before .before .trailing-in .result) (z .pre) (omega arith) (omega arith) (c .if5 .left))
+    char-part (z .args .s .now) (z .args .at) (c .before .before .before .before .before .row-of .result) (omega arith) (row-picks (getD (z .args .s .now) (z .args .at) 0) (c .before .before .before .before .before .row-of .result) (c .before .before .before .before .before .row-of .ensures)) (z .args .rows .now) (c .before .before .trailing-in .result) (z .pre) (omega arith) (c .before .before .trailing-in .ensures .1) (row-more (z .args .rows .now) (c .before .before .before .before .before .row-of .result) (c .before .before .trailing-in .result) (z .pre) (omega arith) (omega arith) (c .if5 .left))
 
 pub char-len-in-spec : {M : Type 1} → statement M
 char-len-in-spec =

@@ -1,24 +1,25 @@
--- `characters::row_of` meets its contract. The rows passed do not hold the byte, so the rows left pick what the table picks
--- (the invariant); a hit is row-hit, a miss row-miss.
+-- `characters::row_of` meets its contract. The rows passed do not hold the byte, so the row is one of those left (the invariant);
+-- a hit is row-hit, a miss row-miss.
 -- Assumes nothing.
-use mathlib.Core.Path.{_≡_, refl, sym, _∙_}
-use Prim.Native.Nat.{_-_, _≤_}
+use mathlib.Core.Path.{_≡_, sym, _∙_}
+use Prim.Native.Nat.{_+_, _-_, _≤_}
 use native.Mathlib.Omega.{arith}
 use lib.ListN.{drop}
 use borrow.Author.Needs.{needs}
-use Rattle.format.specs.Characters.{table-3-7, trailIn, trailOf}
+use Rattle.format.specs.Characters.{table-3-7}
+use Rattle.characters.specs.Coded.{rowIn, leadRow}
 use Rattle.characters.proofs.Coding.{row-lead, row-hit, row-miss, row-none}
 use Rattle.characters.proofs.row_of.Statement.{statement}
 use Rattle.characters.proofs.row_of.Tie as tie
 
 abbrev Inv-loop : tie.InvT-loop
-Inv-loop rows b i₀ i = (i ≤ 9) × (trailOf b ≡ trailIn (drop i table-3-7) b)
+Inv-loop rows b i₀ i = (i ≤ 9) × (leadRow b ≡ i + rowIn (drop i table-3-7) b)
 
 abbrev μ-loop : tie.MeasureT-loop
 μ-loop rows b i₀ i = 9 - i
 
 loop-holds : tie.Need-loop-holds Inv-loop μ-loop
-loop-holds c = (omega arith, refl)
+loop-holds c = (omega arith, unfold leadRow in omega arith)
 
 mul-row : tie.Need-mul-row Inv-loop μ-loop
 mul-row c = search needs
@@ -33,8 +34,9 @@ returns : tie.Need-returns Inv-loop μ-loop
 returns c =
     let z = c .before .before .before .before .before in
     let loop = c .before .before .before .before .loop in
-    loop .inv .1
-    ∙ row-hit (loop .i) (z .args .b) (omega arith) (sym (row-lead (z .args .rows .now) (loop .i) (z .args .b) (z .pre) (omega arith)) ∙ sym (c .before .leads .ensures) ∙ c .if1 .taken)
+    let e =
+    row-hit (loop .i) (z .args .b) (omega arith) (sym (row-lead (z .args .rows .now) (loop .i) (z .args .b) (z .pre) (omega arith)) ∙ sym (c .before .leads .ensures) ∙ c .if1 .taken) in
+    omega (arith, e, loop .inv .1)
 
 add-i : tie.Need-add-i Inv-loop μ-loop
 add-i c = search needs
@@ -45,16 +47,15 @@ loop-less c = search needs
 loop-again : tie.Need-loop-again Inv-loop μ-loop
 loop-again c =
     let z = c .before .before .before .before .before in
-    let loop = c .before .before .before .before .loop in (
-      omega arith,
-      loop .inv .1
-          ∙ row-miss (loop .i) (z .args .b) (omega arith) (sym (row-lead (z .args .rows .now) (loop .i) (z .args .b) (z .pre) (omega arith)) ∙ sym (c .before .leads .ensures) ∙ c .if1 .left),
-    )
+    let loop = c .before .before .before .before .loop in
+    let e =
+    row-miss (loop .i) (z .args .b) (omega arith) (sym (row-lead (z .args .rows .now) (loop .i) (z .args .b) (z .pre) (omega arith)) ∙ sym (c .before .leads .ensures) ∙ c .if1 .left) in
+    (omega arith, omega (arith, e, loop .inv .1))
 
 returns-2 : tie.Need-returns-2 Inv-loop μ-loop
 returns-2 c =
     let e : c .before .loop .i ≡ 9 = omega arith in
-    c .before .loop .inv .1 ∙ rw e (row-none (c .before .before .args .b))
+    omega (arith, rw e at (c .before .loop .inv .1), row-none (c .before .before .args .b))
 
 pub row-of-spec : {M : Type 1} → statement M
 row-of-spec =

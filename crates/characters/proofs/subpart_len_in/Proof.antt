@@ -2,8 +2,9 @@
 -- subpart-none where it picks none.
 -- Assumes nothing.
 use native.Mathlib.Omega.{arith}
+use lib.ListN.{getD}
 use borrow.Author.Needs.{needs}
-use Rattle.characters.proofs.Coding.{past-end, subpart-none, subpart-row}
+use Rattle.characters.proofs.Coding.{past-end, row-picks, subpart-none, subpart-row}
 use Rattle.characters.proofs.subpart_len_in.Statement.{statement}
 use Rattle.characters.proofs.subpart_len_in.Tie as tie
 
@@ -20,7 +21,7 @@ row-of-requires c κs = search needs
 returns-2 : tie.Need-returns-2
 returns-2 c =
     let z = c .before .before .before .before .before in
-    subpart-none (z .args .s .now) (z .args .at) (c .before .row-of .result) (omega arith) (c .before .row-of .ensures) (omega arith)
+    subpart-none (z .args .s .now) (z .args .at) (c .before .row-of .result) (omega arith) (row-picks (getD (z .args .s .now) (z .args .at) 0) (c .before .row-of .result) (c .before .row-of .ensures)) (omega arith)
 
 mul-row : tie.Need-mul-row
 mul-row c = search needs
@@ -40,7 +41,7 @@ add-result c = search needs
 returns-3 : tie.Need-returns-3
 returns-3 c =
     let z = c .before .before .before .before .before .before .before in
-    subpart-row (z .args .s .now) (z .args .at) (c .before .before .before .row-of .result) (omega arith) (c .before .before .before .row-of .ensures) (z .args .rows .now) (c .trailing-in .result) (z .pre) (omega arith) (c .trailing-in .ensures .1)
+    subpart-row (z .args .s .now) (z .args .at) (c .before .before .before .row-of .result) (omega arith) (row-picks (getD (z .args .s .now) (z .args .at) 0) (c .before .before .before .row-of .result) (c .before .before .before .row-of .ensures)) (z .args .rows .now) (c .trailing-in .result) (z .pre) (omega arith) (c .trailing-in .ensures .1)
 
 pub subpart-len-in-spec : {M : Type 1} → statement M
 subpart-len-in-spec =

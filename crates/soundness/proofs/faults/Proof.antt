@@ -1,23 +1,24 @@
--- `soundness::faults` meets its contract. The invariant: where no fault was found, each byte passed is sound.
+-- `soundness::faults` meets its contract. The invariant: the worst so far tells whether each byte passed is sound.
 -- Assumes nothing.
-use mathlib.Core.Path.{_≡_}
-use mathlib.Core.Logic.{⊎-elim}
-use Prim.Native.Nat.{ℕ, _-_, _≤_, _<_}
+use mathlib.Core.Path.{_≡_, refl, _∙_}
+use mathlib.Core.Bool.{not}
+use mathlib.Core.Logic.{⊎-elim, inl, inr}
+use Prim.Native.Nat.{_-_, _≤_}
 use native.Mathlib.Omega.{arith}
 use borrow.Author.Needs.{needs}
-use Rattle.soundness.proofs.Sound.{sound-more}
-use Rattle.soundness.specs.Sound.{SoundAt}
+use Rattle.soundness.proofs.Sound.{faults-more}
+use Rattle.soundness.specs.Sound.{bit, allSound}
 use Rattle.soundness.proofs.faults.Statement.{statement}
 use Rattle.soundness.proofs.faults.Tie as tie
 
 abbrev Inv-loop : tie.InvT-loop
-Inv-loop part worst₀ k₀ worst k = (k ≤ 64) × (worst ≡ 0 → (i : ℕ) → i < k → SoundAt part i)
+Inv-loop part worst₀ k₀ worst k = (k ≤ 64) × (worst ≡ bit (not (allSound k part)))
 
 abbrev μ-loop : tie.MeasureT-loop
 μ-loop part worst₀ k₀ worst k = 64 - k
 
 loop-holds : tie.Need-loop-holds Inv-loop μ-loop
-loop-holds c = (omega arith, λ z k h. absurd (omega arith))
+loop-holds c = (omega arith, unfold allSound in refl)
 
 shared-slice-read-fault : tie.Need-shared-slice-read-fault Inv-loop μ-loop
 shared-slice-read-fault c = search needs
@@ -50,16 +51,19 @@ loop-less : tie.Need-loop-less Inv-loop μ-loop
 loop-less c = search needs
 
 loop-again : tie.Need-loop-again Inv-loop μ-loop
-loop-again c = (
-  omega arith,
-  λ z.
-      sound-more (c .before .before .before .before .before .before .before .before .before .args .part .now) (c .before .before .before .before .before .before .before .loop .k)
-      (c .before .before .before .before .before .before .before .loop .inv .1 (⊎-elim (λ w. omega arith) (λ w. omega arith) (c .if1 .came)))
-      (c .before .fault .ensures (⊎-elim (λ w. omega arith) (λ w. omega arith) (c .if1 .came))),
-)
+loop-again c =
+    let loop = c .before .before .before .before .before .before .before .loop in (
+      omega arith,
+      faults-more (c .before .before .before .before .before .before .before .before .before .args .part .now) (loop .k) (loop .worst) (c .before .fault .result) (c .if1 .worst)
+          (loop .inv .1)
+          (c .before .fault .ensures)
+          (⊎-elim (λ w. inl (omega arith, omega arith)) (λ w. inr (omega arith, omega arith)) (c .if1 .came)),
+    )
 
 returns : tie.Need-returns Inv-loop μ-loop
-returns c = λ z k h. c .before .loop .inv .1 z k (omega arith)
+returns c =
+    let e : c .before .loop .k ≡ 64 = omega arith in
+    c .before .loop .inv .1 ∙ rw e refl
 
 pub faults-spec : {M : Type 1} → statement M
 faults-spec =

@@ -1,8 +1,13 @@
--- `utf8::past_part` meets its contract. ASCII bytes are passed over by ascii-passed; else it is what past_chars does.
+-- `utf8::past_part` meets its contract. ASCII bytes are gone over by chars-ascii-part; else it is what past_chars does.
 -- Assumes nothing.
+use mathlib.Core.Path.{sym}
+use Prim.Native.Nat.{_-_, _<_}
 use native.Mathlib.Omega.{arith}
+use lib.ListN.{take, drop}
 use borrow.Author.Needs.{needs}
-use Rattle.utf8_blocks.proofs.Blocks.{ascii-passed}
+use Rattle.utf8_blocks.specs.Blocks.{largestOf}
+use Rattle.utf8_blocks.proofs.Answers.{ascii-is}
+use Rattle.utf8.proofs.Parts.{chars-ascii-part}
 use Rattle.utf8.proofs.past_part.Statement.{statement}
 use Rattle.utf8.proofs.past_part.Tie as tie
 
@@ -19,7 +24,12 @@ largest-requires : tie.Need-largest-requires
 largest-requires c κs = search needs
 
 returns : tie.Need-returns
-returns c = (ascii-passed (c .before .before .before .before .args .s .now) (c .before .before .before .before .args .from) (c .before .before .before .before .args .stop) (c .before .largest .result) (omega arith) (omega arith) (omega arith) (c .before .largest .ensures), λ l. absurd (omega arith))
+returns c =
+    let a = c .before .before .before .before .args in
+    let top = c .before .largest in
+    let part = take (a .stop - a .from) (drop (a .from) (a .s .now)) in
+    let l : largestOf part < 0x80 = omega (arith, top .ensures) in
+    sym (chars-ascii-part (a .stop - a .from) (a .s .now) (a .from) (a .stop) (omega arith) (omega arith) (ascii-is part l))
 
 past-chars-requires : tie.Need-past-chars-requires
 past-chars-requires c κs = search needs

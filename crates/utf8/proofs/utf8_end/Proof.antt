@@ -1,14 +1,14 @@
 -- `utf8::utf8_end` meets its contract. The invariant: UTF-8 ends, from the place reached on, where it ends from the first place
--- on. Each turn goes on by a byte at least.
+-- on. A turn's laws are those of Parts.antt.
 -- Assumes nothing.
 use mathlib.Core.Path.{_≡_, refl, sym, _∙_}
-use mathlib.Core.Logic.{⊎-elim}
 use Prim.Native.Nat.{_-_}
 use native.Mathlib.Omega.{arith}
 use lib.ListN.{length}
-use Rattle.format.proofs.Lists.{below}
 use Rattle.characters.specs.Lengths.{utf8End}
 use Rattle.characters.proofs.Ends.{end-end}
+use Rattle.utf8_blocks.proofs.Blocks.{blocks-end-passed}
+use Rattle.utf8.proofs.Parts.{turn-keeps, turn-ends, turn-less}
 use Rattle.utf8.proofs.utf8_end.Statement.{statement}
 use Rattle.utf8.proofs.utf8_end.Tie as tie
 
@@ -25,25 +25,42 @@ past-blocks-requires : tie.Need-past-blocks-requires Inv-loop μ-loop
 past-blocks-requires c κs = omega arith
 
 block-end-requires : tie.Need-block-end-requires Inv-loop μ-loop
-block-end-requires c κs = c .past-blocks .ensures .inside
+block-end-requires c κs =
+    blocks-end-passed (c .before .before .before .before .args .s .now) (c .before .before .loop .at) (c .past-blocks .result) (c .past-blocks .ensures) (omega arith)
+    .inside
 
 past-part-requires : tie.Need-past-part-requires Inv-loop μ-loop
-past-part-requires c κs = (refl, c .before .block-end .ensures .0, c .before .block-end .ensures .1)
+past-part-requires c κs =
+    let run = c .before .before .past-blocks in
+    let p = blocks-end-passed (c .before .before .before .before .before .before .args .s .now) (c .before .before .before .before .loop .at) (run .result) (run .ensures) (omega arith) in
+    (refl, omega (arith, c .before .block-end .ensures, p .inside), omega (arith, c .before .block-end .ensures))
 
 returns : tie.Need-returns Inv-loop μ-loop
-returns c = sym (c .before .before .before .before .before .before .loop .inv ∙ c .before .before .before .before .past-blocks .ensures .keeps ∙ c .before .past-part .ensures .0 .keeps ∙ c .before .past-part .ensures .1 (c .if1 .taken))
+returns c =
+    let a = c .before .before .before .before .before .before .before .before .args in
+    let loop = c .before .before .before .before .before .before .loop in
+    let run = c .before .before .before .before .past-blocks in
+    let stop = c .before .before .before .block-end in
+    let part = c .before .past-part in
+    sym (loop .inv ∙ turn-ends (a .s .now) (loop .at) (run .result) (stop .result) (part .result) (omega arith) (run .ensures) (stop .ensures) (part .ensures) (c .if1 .taken))
 
 loop-less : tie.Need-loop-less Inv-loop μ-loop
 loop-less c =
-    let p = c .before .before .before .before .past-blocks .ensures in
-    let q = c .before .past-part .ensures .0 in
-    ⊎-elim
-    (λ l. omega (arith, c .before .before .before .block-end .ensures .2 l))
-    (λ l. omega arith)
-    (below (c .before .before .before .before .past-blocks .result) (length (c .before .before .before .before .before .before .before .before .args .s .now)))
+    let a = c .before .before .before .before .before .before .before .before .args in
+    let loop = c .before .before .before .before .before .before .loop in
+    let run = c .before .before .before .before .past-blocks in
+    let stop = c .before .before .before .block-end in
+    let part = c .before .past-part in
+    turn-less (a .s .now) (loop .at) (run .result) (stop .result) (part .result) (omega arith) (run .ensures) (stop .ensures) (part .ensures) (omega arith)
 
 loop-again : tie.Need-loop-again Inv-loop μ-loop
-loop-again c = c .before .before .before .before .before .before .loop .inv ∙ c .before .before .before .before .past-blocks .ensures .keeps ∙ c .before .past-part .ensures .0 .keeps
+loop-again c =
+    let a = c .before .before .before .before .before .before .before .before .args in
+    let loop = c .before .before .before .before .before .before .loop in
+    let run = c .before .before .before .before .past-blocks in
+    let stop = c .before .before .before .block-end in
+    let part = c .before .past-part in
+    loop .inv ∙ turn-keeps (a .s .now) (loop .at) (run .result) (stop .result) (part .result) (omega arith) (run .ensures) (stop .ensures) (part .ensures)
 
 returns-2 : tie.Need-returns-2 Inv-loop μ-loop
 returns-2 c = sym (c .before .loop .inv ∙ end-end (c .before .before .before .args .s .now) (c .before .loop .at) (omega arith))

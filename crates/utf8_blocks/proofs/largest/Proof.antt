@@ -1,27 +1,24 @@
--- `utf8_blocks::largest` meets its contract. The invariant: no byte passed is above the largest so far.
+-- `utf8_blocks::largest` meets its contract. The invariant: the largest byte is the larger of that passed and that left.
 -- Assumes nothing.
-use mathlib.Core.Path.{_≡_, refl, sym, ap, _∙_}
-use mathlib.Core.Bool.{true}
+use mathlib.Core.Path.{_≡_, refl}
 use mathlib.Core.Logic.{⊎-elim}
-use Prim.Native.Nat.{_-_, _≤_}
+use Prim.Native.Nat.{_-_, _≤_, max}
 use native.Mathlib.Omega.{arith}
-use lib.ListN.{length, take}
+use lib.ListN.{length, drop}
 use borrow.Author.Needs.{needs}
-use lib.Dec.{leb}
-use Rattle.format.specs.Bytes.{all}
-use lib.Seq.{take-length}
-use Rattle.utf8_blocks.proofs.Blocks.{top-more}
+use Rattle.utf8_blocks.specs.Blocks.{largestOf}
+use Rattle.utf8_blocks.proofs.Answers.{largest-more, largest-none}
 use Rattle.utf8_blocks.proofs.largest.Statement.{statement}
 use Rattle.utf8_blocks.proofs.largest.Tie as tie
 
 abbrev Inv-loop : tie.InvT-loop
-Inv-loop part top₀ k₀ k-end top k = (k-end ≡ length part) × (k ≤ k-end) × (all (λ b. leb b top) (take k part) ≡ true)
+Inv-loop part top₀ k₀ k-end top k = (k-end ≡ length part) × (k ≤ k-end) × (largestOf part ≡ max top (largestOf (drop k part)))
 
 abbrev μ-loop : tie.MeasureT-loop
 μ-loop part top₀ k₀ k-end top k = k-end - k
 
 loop-holds : tie.Need-loop-holds Inv-loop μ-loop
-loop-holds c = (refl, omega arith, unfold all in refl)
+loop-holds c = (refl, omega arith, omega arith)
 
 shared-slice-read-b : tie.Need-shared-slice-read-b Inv-loop μ-loop
 shared-slice-read-b c = search needs
@@ -36,16 +33,13 @@ loop-again : tie.Need-loop-again Inv-loop μ-loop
 loop-again c = (
   c .before .before .before .loop .inv .0,
   omega arith,
-  top-more (c .before .before .before .before .args .part .now) (c .before .before .before .loop .k) (c .before .before .before .loop .top) (c .if1 .top) (omega arith)
-      (⊎-elim (λ w. omega arith) (λ w. omega arith) (c .if1 .came))
+  largest-more (c .before .before .before .before .args .part .now) (c .before .before .before .loop .k) (c .before .before .before .loop .top) (c .if1 .top) (omega arith)
       (⊎-elim (λ w. omega arith) (λ w. omega arith) (c .if1 .came))
       (c .before .before .before .loop .inv .2),
 )
 
 returns : tie.Need-returns Inv-loop μ-loop
-returns c =
-    let e : c .before .loop .k ≡ length (c .before .before .args .part .now) = omega arith in
-    ap (all (λ b. leb b (c .before .loop .top))) (sym (take-length (c .before .before .args .part .now)) ∙ rw (← e) refl) ∙ c .before .loop .inv .2
+returns c = omega (arith, c .before .loop .inv .2, largest-none (c .before .before .args .part .now) (c .before .loop .k) (omega arith))
 
 pub largest-spec : {M : Type 1} → statement M
 largest-spec =

@@ -1,13 +1,10 @@
--- `utf8_blocks::past_block` meets its contract. ASCII bytes are passed over by ascii-passed, sound ones by past_sound; else
--- nothing is.
+-- `utf8_blocks::past_block` meets its contract. Each answer is a case of blockEnd.
 -- Assumes nothing.
-use mathlib.Core.Path.{_≡_, subst}
-use Prim.Native.Nat.{ℕ, _+_, _-_}
+use mathlib.Core.Path.{sym, _∙_}
+use Prim.Native.Nat.{_+_, _-_}
 use native.Mathlib.Omega.{arith}
 use borrow.Author.Needs.{needs}
-use Rattle.characters.specs.Lengths.{Passed}
-use Rattle.characters.proofs.Ends.{stays}
-use Rattle.utf8_blocks.proofs.Blocks.{ascii-passed}
+use Rattle.utf8_blocks.proofs.Answers.{block-ascii, block-first, block-sound, block-not}
 use Rattle.utf8_blocks.proofs.past_block.Statement.{statement}
 use Rattle.utf8_blocks.proofs.past_block.Tie as tie
 
@@ -28,22 +25,33 @@ largest-requires c κs = search needs
 
 returns : tie.Need-returns
 returns c =
-    ascii-passed (c .before .before .before .before .args .s .now) (c .before .before .before .before .args .at) (c .before .before .before .before .args .at + 64) (c .before .largest .result) (omega arith) (omega arith) (omega arith) (c .before .largest .ensures)
+    let a = c .before .before .before .before .args in
+    let l = c .before .largest in
+    sym (block-ascii (a .s .now) (a .at) (a .at + 64 - a .at) (l .result) (omega arith) (l .ensures) (omega arith))
 
 returns-2 : tie.Need-returns-2
-returns-2 c = stays (c .before .before .before .before .before .args .s .now) (c .before .before .before .before .before .args .at) (omega arith)
+returns-2 c =
+    let a = c .before .before .before .before .before .args in
+    let l = c .before .before .largest in
+    sym (block-first (a .s .now) (a .at) (a .at + 64 - a .at) (l .result) (omega arith) (l .ensures) (omega arith) (omega arith))
 
 is-settled-requires : tie.Need-is-settled-requires
 is-settled-requires c κs = search needs
 
 past-sound-requires : tie.Need-past-sound-requires
-past-sound-requires c κs = (omega arith, c .before .is-settled .ensures (c .if3 .taken))
+past-sound-requires c κs = search needs
 
 returns-3 : tie.Need-returns-3
-returns-3 c = let e : c .before .before .before .before .before .before .before .before .args .at - 3 + 3 ≡ c .before .before .before .before .before .before .before .before .args .at = omega arith in subst (λ (i : ℕ). Passed (c .before .before .before .before .before .before .before .before .args .s .now) i (c .past-sound .result)) e (c .past-sound .ensures)
+returns-3 c =
+    let a = c .before .before .before .before .before .before .before .before .args in
+    let l = c .before .before .before .before .before .largest in
+    c .past-sound .ensures ∙ sym (block-sound (a .s .now) (a .at) (a .at + 64 - a .at) (l .result) (omega arith) (l .ensures) (omega arith) (omega arith) (sym (c .before .before .is-settled .ensures) ∙ c .before .if3 .taken))
 
 returns-4 : tie.Need-returns-4
-returns-4 c = stays (c .before .before .before .before .before .before .before .args .s .now) (c .before .before .before .before .before .before .before .args .at) (omega arith)
+returns-4 c =
+    let a = c .before .before .before .before .before .before .before .args in
+    let l = c .before .before .before .before .largest in
+    sym (block-not (a .s .now) (a .at) (a .at + 64 - a .at) (l .result) (omega arith) (l .ensures) (omega arith) (sym (c .before .is-settled .ensures) ∙ c .if3 .left))
 
 pub past-block-spec : {M : Type 1} → statement M
 past-block-spec =

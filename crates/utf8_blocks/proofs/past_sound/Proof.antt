@@ -1,11 +1,10 @@
--- `utf8_blocks::past_sound` meets its contract. The block ends at a settled place, or a byte before its end leads, where
--- sound bytes make the place settled.
+-- `utf8_blocks::past_sound` meets its contract. Each answer is a case of soundEnd.
 -- Assumes nothing.
+use mathlib.Core.Path.{sym}
 use Prim.Native.Nat.{_+_, _-_}
 use native.Mathlib.Omega.{arith}
 use borrow.Author.Needs.{needs}
-use Rattle.characters.proofs.Ends.{stays}
-use Rattle.utf8_blocks.proofs.Blocks.{sound-lead, sound-whole}
+use Rattle.utf8_blocks.proofs.Answers.{sound-not, sound-first, sound-second, sound-third, sound-all}
 use Rattle.utf8_blocks.proofs.past_sound.Statement.{statement}
 use Rattle.utf8_blocks.proofs.past_sound.Tie as tie
 
@@ -28,7 +27,10 @@ add-result : tie.Need-add-result
 add-result c = search needs
 
 returns : tie.Need-returns
-returns c = stays (c .before .before .before .before .args .s .now) (c .before .before .before .before .args .from + 3) (omega arith)
+returns c =
+    let a = c .before .before .before .before .args in
+    let f = c .before .faults in
+    sym (sound-not (a .s .now) (a .from) (a .from + 67 - a .from) (f .result) (omega arith) (f .ensures) (omega arith))
 
 add-if2 : tie.Need-add-if2
 add-if2 c = search needs
@@ -41,8 +43,9 @@ add-result-2 c = search needs
 
 returns-2 : tie.Need-returns-2
 returns-2 c =
-    let z = c .before .before .before .before .before .before in
-    sound-lead (z .args .s .now) (z .args .from) (z .args .from + 67 - z .args .from) (omega arith) (omega arith) (z .pre .1) (c .before .before .before .faults .ensures (omega arith)) (z .args .from + 66) (omega arith) (omega arith) (omega arith)
+    let a = c .before .before .before .before .before .before .args in
+    let f = c .before .before .before .faults in
+    sym (sound-first (a .s .now) (a .from) (a .from + 67 - a .from) (f .result) (omega arith) (f .ensures) (omega arith) (omega arith))
 
 add-if3 : tie.Need-add-if3
 add-if3 c = search needs
@@ -55,8 +58,9 @@ add-result-3 c = search needs
 
 returns-3 : tie.Need-returns-3
 returns-3 c =
-    let z = c .before .before .before .before .before .before .before .before in
-    sound-lead (z .args .s .now) (z .args .from) (z .args .from + 67 - z .args .from) (omega arith) (omega arith) (z .pre .1) (c .before .before .before .before .before .faults .ensures (omega arith)) (z .args .from + 65) (omega arith) (omega arith) (omega arith)
+    let a = c .before .before .before .before .before .before .before .before .args in
+    let f = c .before .before .before .before .before .faults in
+    sym (sound-second (a .s .now) (a .from) (a .from + 67 - a .from) (f .result) (omega arith) (f .ensures) (omega arith) (omega arith) (omega arith))
 
 add-if4 : tie.Need-add-if4
 add-if4 c = search needs
@@ -69,13 +73,15 @@ add-result-4 c = search needs
 
 returns-4 : tie.Need-returns-4
 returns-4 c =
-    let z = c .before .before .before .before .before .before .before .before .before .before in
-    sound-lead (z .args .s .now) (z .args .from) (z .args .from + 67 - z .args .from) (omega arith) (omega arith) (z .pre .1) (c .before .before .before .before .before .before .before .faults .ensures (omega arith)) (z .args .from + 64) (omega arith) (omega arith) (omega arith)
+    let a = c .before .before .before .before .before .before .before .before .before .before .args in
+    let f = c .before .before .before .before .before .before .before .faults in
+    sym (sound-third (a .s .now) (a .from) (a .from + 67 - a .from) (f .result) (omega arith) (f .ensures) (omega arith) (omega arith) (omega arith) (omega arith))
 
 returns-5 : tie.Need-returns-5
 returns-5 c =
-    let z = c .before .before .before .before .before .before .before .before .before .before in
-    sound-whole (z .args .s .now) (z .args .from) (z .args .from + 67 - z .args .from) (omega arith) (omega arith) (z .pre .1) (c .before .before .before .before .before .before .before .faults .ensures (omega arith)) (omega arith) (omega arith) (omega arith)
+    let a = c .before .before .before .before .before .before .before .before .before .before .args in
+    let f = c .before .before .before .before .before .before .before .faults in
+    sym (sound-all (a .s .now) (a .from) (a .from + 67 - a .from) (f .result) (omega arith) (f .ensures) (omega arith) (omega arith) (omega arith) (omega arith))
 
 pub past-sound-spec : {M : Type 1} → statement M
 past-sound-spec =
