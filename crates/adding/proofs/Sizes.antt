@@ -1,0 +1,64 @@
+-- How long the parts of a header that is held alone can be, and how they spell a message's header. Assumes nothing.
+use Prim.Native.Nat.{_+_, _-_, _*_, _≤_}
+use mathlib.Core.Path.{_≡_, refl, sym, _∙_}
+use mathlib.Core.Bool.{true}
+use mathlib.Core.List.{List, [], _∷_}
+use native.Mathlib.Omega.{arith}
+use lib.ListN.{length, take, drop}
+use Rattle.format.specs.Bytes.{Bytes, all, total}
+use Rattle.format.specs.Limits.{maxValue, maxParams}
+use Rattle.format.specs.Message.{Entry, LoneHeader, named, validParam, needEntry}
+use Rattle.format.specs.Layout.{HoldsAlone}
+use Rattle.format.specs.declared.CpimHeader.{CpimHeader}
+use Rattle.format.proofs.Lists.{all-head, all-tail}
+use Rattle.format.proofs.Messages.Parts as valid
+use Rattle.held.specs.Holding.{headerHolds}
+use Rattle.held.specs.Decoding.{headerIn}
+use Rattle.held.proofs.Parts.{alone-parts}
+use Rattle.held.proofs.Alone.{held-alone-holds}
+use Rattle.placing.specs.Placing.{Spelt}
+use Rattle.placing.proofs.Bounds.{part-is}
+use Rattle.header.proofs.Steps.{name-short, value-short}
+use Rattle.header.proofs.Ways as ways
+
+-- a parameter needs at most 16 + 64 + 256 bytes
+entry-bytes : (e : Entry) → validParam e ≡ true → needEntry e ≤ 336
+unfolding needEntry
+entry-bytes e h =
+    let p = valid.param-parts e h in
+    omega (arith, name-short (e .name) (p .named), value-short (e .value) (p .valued))
+
+entries-bytes : (es : List Entry) → all validParam es ≡ true → total needEntry es ≤ 336 * length es
+unfolding total
+entries-bytes [] h = omega arith
+entries-bytes (e ∷ es) h =
+    omega (arith, entry-bytes e (all-head validParam e es h), entries-bytes es (all-tail validParam e es h))
+
+pub record Short (h : CpimHeader) : Type 0 where
+  pub value : h .valuelen ≤ maxValue
+  pub params : h .params ≤ maxParams
+  pub tail : h .size ≤ 16 + h .valuelen + 3360
+
+pub short : (h : CpimHeader) (store : Bytes) → headerHolds h store ≡ true → Short h
+short h store e =
+    let k = headerIn h store in
+    let holds = held-alone-holds h store e in
+    let parts = alone-parts h store k holds in
+    let limits = valid.alone-parts k (holds .within) in
+    record {
+      value = omega (arith, parts .valuelen, ways.value-short (k .value) (limits .valued));
+      params = omega (arith, parts .params, limits .params .few);
+      tail = omega (arith, parts .used, parts .params, entries-bytes (k .params) (limits .params .each), limits .params .few);
+    }
+
+-- the parts of the store as slices take them
+pub spelt : (name : Bytes) (h : CpimHeader) (store : Bytes) (x : LoneHeader) → HoldsAlone h store x
+    → Spelt (named name x) name (take (16 + h .valuelen - 16) (drop 16 store)) (h .params) (take (h .size - (16 + h .valuelen)) (drop (16 + h .valuelen) store))
+spelt name h store x held =
+    let parts = alone-parts h store x held in
+    record {
+      name-is = refl;
+      value-is = sym (part-is 16 (h .valuelen) store ∙ parts .value-part);
+      params-are = sym (parts .params);
+      tail-is = sym (parts .params-part);
+    }

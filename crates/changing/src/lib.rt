@@ -1,0 +1,158 @@
+// What the changing calls do to a message that is held: the checks on the arguments in document 01's order, then the entry put in
+// its place.
+
+use format::Answer;
+use format::CpimMessage;
+use format::Numbers;
+use held::MAX_CONTENT_HEADERS;
+use held::MAX_HEADERS;
+use placing::contents_of;
+use placing::headers_of;
+use placing::put_content;
+use placing::put_header;
+use utf8::is_utf8;
+use validate::validate_content_header_value;
+use validate::validate_cpim_header_value;
+use validate::validate_header_name;
+ghost use mathlib.Core.Path.{_≡_};
+ghost use mathlib.Core.Bool.{true, _&&_};
+ghost use mathlib.Core.List.{List};
+ghost use Prim.Native.Nat.{_<_};
+ghost use lib.ListN.{length};
+ghost use Rattle.format.specs.Characters.{isUtf8};
+ghost use Rattle.format.specs.Refusals.{numbers};
+ghost use Rattle.format.specs.Message.{Header, Message};
+ghost use Rattle.format.specs.Calls.{append, setHeader, addHeader, addContentHeader};
+ghost use Rattle.format.specs.Layout.{Holds};
+ghost use Rattle.format.specs.Lending.{headLent, lengths, numbersOf};
+ghost use Rattle.held.specs.Holding.{messageHolds};
+ghost use Rattle.placing.specs.Placing.{Does, Spelt};
+ghost use Rattle.changing.specs.Changing.{readiness};
+
+// A refusal, with the record as it was handed in.
+pub fn refused(n: Numbers, m: CpimMessage) -> Answer
+    ensures { λ r. ⌜ r ≡ record { number = n .number; carried = n .carried; message = m } ⌝ }
+{
+    Answer {
+        number: n.number,
+        carried: n.carried,
+        message: m,
+    }
+}
+
+// 25 carrying 0 where no message is held, then 24 where an argument is not UTF-8.
+pub fn ready(m: CpimMessage, head: &[u8], a: &[u8], b: &[u8]) -> Numbers
+    ensures { λ r. ⌜ r ≡ numbers (readiness (messageHolds m (now (head .entry))) (isUtf8 (now (a .entry)) && isUtf8 (now (b .entry)))) ⌝ }
+{
+    if !held::message_holds(m, head) {
+        return Numbers {
+            number: 25,
+            carried: 0,
+        };
+    }
+    if !is_utf8(a) {
+        return Numbers {
+            number: 24,
+            carried: 0,
+        };
+    }
+    if !is_utf8(b) {
+        return Numbers {
+            number: 24,
+            carried: 0,
+        };
+    }
+    Numbers {
+        number: 0,
+        carried: 0,
+    }
+}
+
+// A header behind those of its name: 20, then 25.
+pub fn append_held(
+    m: CpimMessage,
+    head: &mut [u8],
+    name: &[u8],
+    value: &[u8],
+    params: usize,
+    tail: &[u8],
+) -> Answer
+    requires held { ⌜ messageHolds m (now head) ≡ true ⌝ }
+    requires bytes { ⌜ (length (now name) < 256) × (length (now value) < 65536) × (params < 256) × (length (now tail) < 65536) ⌝ }
+    ensures { λ r. ⌜ ((k : Message) (x : Header) → Holds (headLent m (now (head .entry))) k → Spelt x (now (name .entry)) (now (value .entry)) params (now (tail .entry)) → Does (headLent m (now (head .entry))) (headLent (r .message) (now (head .exit))) (numbersOf r) (append x (lengths (headLent m (now (head .entry)))) k)) ⌝ }
+{
+    if MAX_HEADERS <= m.headers {
+        return Answer {
+            number: 20,
+            carried: (m.headers + 1) as u64,
+            message: m,
+        };
+    }
+    let g = headers_of(m, head, name);
+    put_header(m, head, g.at + g.size, 0, 0, name, value, params, tail)
+}
+
+// A header of this name and value in the place of all of its name: name, 20 counted without what it replaces, value, 25.
+pub fn set_held(m: CpimMessage, head: &mut [u8], name: &[u8], value: &[u8]) -> Answer
+    requires { ⌜ messageHolds m (now head) ≡ true ⌝ }
+    ensures { λ r. ⌜ ((k : Message) → Holds (headLent m (now (head .entry))) k → Does (headLent m (now (head .entry))) (headLent (r .message) (now (head .exit))) (numbersOf r) (setHeader (now (name .entry)) (now (value .entry)) (lengths (headLent m (now (head .entry)))) k)) ⌝ }
+{
+    let n = validate_header_name(name);
+    if n.number != 0 {
+        return refused(n, m);
+    }
+    let g = headers_of(m, head, name);
+    let others = m.headers - g.many;
+    if MAX_HEADERS <= others {
+        return Answer {
+            number: 20,
+            carried: (others + 1) as u64,
+            message: m,
+        };
+    }
+    let v = validate_cpim_header_value(value);
+    if v.number != 0 {
+        return refused(v, m);
+    }
+    put_header(m, head, g.at, g.size, g.many, name, value, 0, b"")
+}
+
+// A header appended: value, name, 20, 25.
+pub fn add_held(m: CpimMessage, head: &mut [u8], name: &[u8], value: &[u8]) -> Answer
+    requires { ⌜ messageHolds m (now head) ≡ true ⌝ }
+    ensures { λ r. ⌜ ((k : Message) → Holds (headLent m (now (head .entry))) k → Does (headLent m (now (head .entry))) (headLent (r .message) (now (head .exit))) (numbersOf r) (addHeader (now (name .entry)) (now (value .entry)) (lengths (headLent m (now (head .entry)))) k)) ⌝ }
+{
+    let v = validate_cpim_header_value(value);
+    if v.number != 0 {
+        return refused(v, m);
+    }
+    let n = validate_header_name(name);
+    if n.number != 0 {
+        return refused(n, m);
+    }
+    append_held(m, head, name, value, 0, b"")
+}
+
+// A content header set: name, value, 22 even when replacing, 25.
+pub fn content_held(m: CpimMessage, head: &mut [u8], name: &[u8], value: &[u8]) -> Answer
+    requires { ⌜ messageHolds m (now head) ≡ true ⌝ }
+    ensures { λ r. ⌜ ((k : Message) → Holds (headLent m (now (head .entry))) k → Does (headLent m (now (head .entry))) (headLent (r .message) (now (head .exit))) (numbersOf r) (addContentHeader (now (name .entry)) (now (value .entry)) (lengths (headLent m (now (head .entry)))) k)) ⌝ }
+{
+    let n = validate_header_name(name);
+    if n.number != 0 {
+        return refused(n, m);
+    }
+    let v = validate_content_header_value(value);
+    if v.number != 0 {
+        return refused(v, m);
+    }
+    if MAX_CONTENT_HEADERS <= m.contents {
+        return Answer {
+            number: 22,
+            carried: (m.contents + 1) as u64,
+            message: m,
+        };
+    }
+    let g = contents_of(m, head, name);
+    put_content(m, head, g.at, g.size, g.many, name, value)
+}

@@ -1,0 +1,4 @@
+pub mod Bounds
+pub mod Putting
+pub mod Steps
+pub mod Ways

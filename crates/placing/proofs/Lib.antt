@@ -1,0 +1,4 @@
+pub mod Laying
+pub mod Putting
+pub mod Bounds
+pub mod Groups

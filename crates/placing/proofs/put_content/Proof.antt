@@ -1,0 +1,139 @@
+-- `placing::put_content` meets its contract. Assumes nothing.
+use mathlib.Core.Path.{refl}
+use Prim.Native.Nat.{_-_}
+use native.Mathlib.Omega.{arith}
+use borrow.Author.Needs.{needs}
+use Rattle.placing.proofs.Bounds.{bounds}
+use Rattle.placing.proofs.Putting.{content-put}
+use Rattle.placing.proofs.put_content.Statement.{statement}
+use Rattle.placing.proofs.put_content.Tie as tie
+
+add-from : tie.Need-add-from
+add-from c =
+    let start = c .before .before .before .before in
+    let m = start .args .m in
+    let head = start .args .head .now in
+    let within = bounds m head (start .pre .0) in
+    omega (arith, within .used, start .good)
+
+add-used : tie.Need-add-used
+add-used c =
+    let start = c .before .before .before .before .before in
+    let m = start .args .m in
+    let head = start .args .head .now in
+    let within = bounds m head (start .pre .0) in
+    omega (arith, within .used, start .good)
+
+add-used-2 : tie.Need-add-used-2
+add-used-2 c =
+    let start = c .before .before .before .before .before in
+    let m = start .args .m in
+    let head = start .args .head .now in
+    let within = bounds m head (start .pre .0) in
+    omega (arith, within .used, start .good)
+
+add-replace : tie.Need-add-replace
+add-replace c =
+    let start = c .before .before .before .before .before .before in
+    let m = start .args .m in
+    let head = start .args .head .now in
+    let within = bounds m head (start .pre .0) in
+    omega (arith, within .used, start .good, start .pre .1 .0)
+
+slice-aggregate-replace : tie.Need-slice-aggregate-replace
+slice-aggregate-replace c = search needs
+
+replace-requires : tie.Need-replace-requires
+replace-requires c κs =
+    let start = c .before .before .before .before .before .before .before in
+    let m = start .args .m in
+    let head = start .args .head .now in
+    let within = bounds m head (start .pre .0) in
+    ((omega (arith, within .used, start .pre .1 .0), within .used), (start .pre .1 .1 .0, start .pre .1 .1 .1, omega arith, omega arith))
+
+same-length : tie.Need-same-length
+same-length c = search needs
+
+returns : tie.Need-returns
+returns c =
+    let start = c .before .before .before .before .before .before .before .before .before .before .before .before in
+    let m = start .args .m in
+    let head = start .args .head .now in
+    let within = bounds m head (start .pre .0) in
+    let args = start .args in
+    λ k l g h held parted. content-put m m head _ _ k held (args .name .now) (args .value .now) (args .at) (args .old) (args .many)
+    l g h parted (c .before .before .before .before .replace .ensures .0) (c .before .before .before .before .replace .ensures .1)
+    (λ _. refl) (λ z. absurd (c .if1 .taken z))
+
+add-size : tie.Need-add-size
+add-size c = search needs
+
+add-size-2 : tie.Need-add-size-2
+add-size-2 c = search needs
+
+sub-t13 : tie.Need-sub-t13
+sub-t13 c =
+    let start = c .before .before .before .before .before .before .before .before .before .before .before .before .before in
+    let m = start .args .m in
+    let head = start .args .head .now in
+    let within = bounds m head (start .pre .0) in
+    omega (arith, start .pre .1 .0 .1)
+
+add-t20 : tie.Need-add-t20
+add-t20 c =
+    let start = c .before .before .before .before .before .before .before .before .before .before .before .before .before in
+    let m = start .args .m in
+    let head = start .args .head .now in
+    let within = bounds m head (start .pre .0) in
+    omega (arith, within .contents, start .pre .1 .0)
+
+sub-t19 : tie.Need-sub-t19
+sub-t19 c =
+    let start = c .before .before .before .before .before .before .before .before .before .before .before .before .before .before in
+    let m = start .args .m in
+    let head = start .args .head .now in
+    let within = bounds m head (start .pre .0) in
+    omega (arith, start .pre .1 .0 .0)
+
+add-t21 : tie.Need-add-t21
+add-t21 c =
+    let start = c .before .before .before .before .before .before .before .before .before .before .before .before .before .before in
+    let m = start .args .m in
+    let head = start .args .head .now in
+    let within = bounds m head (start .pre .0) in
+    omega (arith, within .used, start .good, start .pre .1)
+
+same-length-2 : tie.Need-same-length-2
+same-length-2 c = search needs
+
+returns-2 : tie.Need-returns-2
+returns-2 c =
+    let start = c .before .before .before .before .before .before .before .before .before .before .before .before .before .before in
+    let m = start .args .m in
+    let head = start .args .head .now in
+    let within = bounds m head (start .pre .0) in
+    let args = start .args in
+    λ k l g h held parted. content-put m _ head _ _ k held (args .name .now) (args .value .now) (args .at) (args .old) (args .many)
+    l g h parted (c .before .before .before .before .before .before .replace .ensures .0) (c .before .before .before .before .before .before .replace .ensures .1)
+    (λ z. absurd (z (c .before .before .if1 .left))) (λ _. refl)
+
+pub put-content-spec : {M : Type 1} → statement M
+put-content-spec =
+    tie.close
+    (tie.spec
+    add-from
+    add-used
+    add-used-2
+    add-replace
+    slice-aggregate-replace
+    replace-requires
+    same-length
+    returns
+    add-size
+    add-size-2
+    sub-t13
+    add-t20
+    sub-t19
+    add-t21
+    same-length-2
+    returns-2)
