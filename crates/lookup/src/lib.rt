@@ -1,0 +1,104 @@
+// Document 01, "Looking up": the values and parameters of a name. What is handed out is a part of the lent head store; `found`
+// tells an absent value from an empty one. Any record and any bytes may be lent, and any n asked for.
+
+use format::CpimMessage;
+use held::message_holds;
+use nth::nth_name;
+use nth::nth_params;
+use nth::nth_value;
+use placing::headers_of;
+use utf8::is_utf8;
+ghost use mathlib.Core.Option.{Option};
+ghost use Rattle.format.specs.Message.{Message};
+ghost use Rattle.format.specs.Layout.{layoutHeader, layoutEntry, Held};
+ghost use Rattle.format.specs.Lending.{headLent};
+ghost use Rattle.format.specs.LookingUp.{mapped, nthHeader, getHeader, getHeaderValue, getParam};
+ghost use Rattle.parts.specs.Found.{Found};
+ghost use Rattle.nth.specs.Listed.{Listed, paramsOf};
+ghost use Rattle.lookup.specs.Named.{headersNamed};
+
+// The bytes of the headers of a name, and how many they are; none for a name that is not UTF-8, and where no message is held.
+pub fn headers_named<'a>(m: CpimMessage, head: &'a [u8], name: &[u8], many: &mut usize) -> &'a [u8]
+    ensures { λ r. ⌜ ((o : Option Message) → Held (headLent m (now (head .entry))) o → Listed layoutHeader (headersNamed o (now (name .entry))) (now r) (now (many .exit))) ⌝ }
+{
+    *many = 0;
+    if !message_holds(m, head) {
+        return &head[..0];
+    }
+    if !is_utf8(name) {
+        return &head[..0];
+    }
+    let g = headers_of(m, head, name);
+    *many = g.many;
+    let from = 256 + g.at;
+    let to = from + g.size;
+    &head[from..to]
+}
+
+// The n-th value of a name.
+pub fn get_header_value<'a>(
+    m: CpimMessage,
+    head: &'a [u8],
+    name: &[u8],
+    n: usize,
+    found: &mut bool,
+) -> &'a [u8]
+    ensures { λ r. ⌜ ((o : Option Message) → Held (headLent m (now (head .entry))) o → Found (getHeaderValue o (now (name .entry)) n) (now (found .exit)) (now r)) ⌝ }
+{
+    let mut many = 0;
+    let values = headers_named(m, head, name, &mut many);
+    nth_value(values, many, n, found)
+}
+
+// The first value of a name.
+pub fn get_header<'a>(m: CpimMessage, head: &'a [u8], name: &[u8], found: &mut bool) -> &'a [u8]
+    ensures { λ r. ⌜ ((o : Option Message) → Held (headLent m (now (head .entry))) o → Found (getHeader o (now (name .entry))) (now (found .exit)) (now r)) ⌝ }
+{
+    get_header_value(m, head, name, 0, found)
+}
+
+// The bytes of the parameters of the k-th value of a name, and how many they are.
+fn params_named<'a>(
+    m: CpimMessage,
+    head: &'a [u8],
+    name: &[u8],
+    k: usize,
+    many: &mut usize,
+) -> &'a [u8]
+    ensures { λ r. ⌜ ((o : Option Message) → Held (headLent m (now (head .entry))) o → Listed layoutEntry (paramsOf (nthHeader o (now (name .entry)) k)) (now r) (now (many .exit))) ⌝ }
+{
+    let mut all = 0;
+    let values = headers_named(m, head, name, &mut all);
+    nth_params(values, all, k, many)
+}
+
+// Name and value of the n-th parameter of the k-th value of a name.
+pub fn get_param_name<'a>(
+    m: CpimMessage,
+    head: &'a [u8],
+    name: &[u8],
+    k: usize,
+    n: usize,
+    found: &mut bool,
+) -> &'a [u8]
+    ensures { λ r. ⌜ ((o : Option Message) → Held (headLent m (now (head .entry))) o → Found (mapped (λ e. e .name) (getParam o (now (name .entry)) k n)) (now (found .exit)) (now r)) ⌝ }
+{
+    let mut many = 0;
+    let params = params_named(m, head, name, k, &mut many);
+    nth_name(params, many, n, found)
+}
+
+pub fn get_param_value<'a>(
+    m: CpimMessage,
+    head: &'a [u8],
+    name: &[u8],
+    k: usize,
+    n: usize,
+    found: &mut bool,
+) -> &'a [u8]
+    ensures { λ r. ⌜ ((o : Option Message) → Held (headLent m (now (head .entry))) o → Found (mapped (λ e. e .value) (getParam o (now (name .entry)) k n)) (now (found .exit)) (now r)) ⌝ }
+{
+    let mut many = 0;
+    let params = params_named(m, head, name, k, &mut many);
+    nth_value(params, many, n, found)
+}
