@@ -1,7 +1,7 @@
 # `make` proves everything and prints what is proved of the whole; `make test` is the gate.
-.PHONY: prove test compare bench format toolchain
+.PHONY: prove test compare bench format library calls rt cargo
 
-prove: toolchain
+prove: rt
 	@rt prove
 	@echo
 	@echo "Proved, among the rest (crates/format/specs/Demand3.antt):"
@@ -9,25 +9,31 @@ prove: toolchain
 	@sed -n '/^pub record Demand3/,$$p' crates/format/specs/Demand3.antt
 
 # The last line is rt's own: 'N passed, 0 failed'.
-test: toolchain compare
+test: compare
 	@rt fmt --check
 	@rt ci
 
-# The leaves beside Rust's standard library and the source.
-compare: toolchain library
+# The leaves beside Rust's standard library and the source, and lists of calls beside the source.
+compare: cargo library calls
 	@cargo run --release --offline --quiet --manifest-path rust/Cargo.toml --bin compare
+	@cargo run --release --offline --quiet --manifest-path rust/Cargo.toml --bin calls
 
-# What a byte costs, as ratios (docs/BENCHMARKS.md).
-bench: toolchain library
+# What the leaves cost, as ratios (docs/BENCHMARKS.md).
+bench: cargo library
 	@cargo run --release --offline --quiet --manifest-path rust/Cargo.toml --bin bench
 
-.PHONY: library
-library: toolchain
-	@rt staticlib leaves >/dev/null || { rt staticlib leaves; exit 1; }
+# What rt prints besides its progress is shown where it fails.
+library: rt
+	@out=$$(rt staticlib leaves) || { printf '%s\n' "$$out"; exit 1; }
 
-format: toolchain
+calls: rt
+	@out=$$(rt staticlib cpim) || { printf '%s\n' "$$out"; exit 1; }
+
+format: rt
 	@rt fmt
 
-toolchain:
+rt:
 	@command -v rt >/dev/null || { echo "rt is not on the PATH: install the Rattle toolchain first"; exit 1; }
-	@command -v cargo >/dev/null || { echo "cargo is not on the PATH: the comparison with the source needs Rust"; exit 1; }
+
+cargo:
+	@command -v cargo >/dev/null || { echo "cargo is not on the PATH: the comparison with the source and the benchmarks need Rust"; exit 1; }

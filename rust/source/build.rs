@@ -17,10 +17,8 @@ fn main() {
     let file = "../../docs/src/cpim.rs";
     println!("cargo:rerun-if-changed={file}");
     let text = fs::read_to_string(file).expect("docs/src/cpim.rs");
-    let lines: Vec<String> = text
-        .lines()
-        .map(|l| if l.starts_with("//!") { l.replacen("//!", "//", 1) } else { l.to_string() })
-        .collect();
+    let lines: Vec<String> =
+        text.lines().map(|l| if l.starts_with("//!") { l.replacen("//!", "//", 1) } else { l.to_string() }).collect();
     let out = Path::new(&env::var("OUT_DIR").unwrap()).join("cpim.rs");
     fs::write(out, lines.join("\n") + DOORS).expect("the copy");
 }

@@ -1,5 +1,8 @@
 //! The leaves, proved in the crates that crates/leaves names, as safe functions. Each tests what the function asks for.
 
+mod random;
+pub use random::Random;
+
 mod raw {
     extern "C" {
         pub fn leaves_is_utf8(s: *const u8, n: usize) -> bool;
@@ -53,14 +56,9 @@ pub fn replaced_len(s: &[u8]) -> usize {
     unsafe { raw::leaves_replaced_len(s.as_ptr(), s.len()) }
 }
 
+/// Writes `s` with its ill-formed subparts replaced to the start of `out` and gives the length.
 pub fn put_replaced(out: &mut [u8], s: &[u8]) -> usize {
     assert!(replaced_len(s) <= out.len());
-    unsafe { raw::leaves_put_replaced(out.as_mut_ptr(), out.len(), s.as_ptr(), s.len()) }
-}
-
-/// `put_replaced` where the caller knows that there is room for three bytes for each.
-pub fn put_replaced_into(out: &mut [u8], s: &[u8]) -> usize {
-    assert!(s.len() < 1 << 60 && 3 * s.len() <= out.len());
     unsafe { raw::leaves_put_replaced(out.as_mut_ptr(), out.len(), s.as_ptr(), s.len()) }
 }
 
@@ -69,19 +67,29 @@ pub fn escaped_len(s: &[u8]) -> usize {
     unsafe { raw::leaves_escaped_len(s.as_ptr(), s.len()) }
 }
 
+/// Writes `s` escaped to the start of `out` and gives the length.
 pub fn escape(out: &mut [u8], s: &[u8]) -> usize {
-    assert!(s.len() < 1 << 60 && 6 * s.len() <= out.len());
+    assert!(escaped_len(s) <= out.len());
     unsafe { raw::leaves_escape(out.as_mut_ptr(), out.len(), s.as_ptr(), s.len()) }
 }
 
-pub fn unescaped_len(s: &[u8]) -> Option<usize> {
-    let reads = unsafe { raw::leaves_reads(s.as_ptr(), s.len()) };
-    reads.then(|| unsafe { raw::leaves_unescaped_len(s.as_ptr(), s.len()) })
+/// Whether every escape of `s` can be read.
+pub fn reads(s: &[u8]) -> bool {
+    unsafe { raw::leaves_reads(s.as_ptr(), s.len()) }
 }
 
-/// Writes what `s` reads as to the start of `out` and gives its length, or nothing where `s` has a bad escape.
+/// The length of what `s` reads as; 0 where `s` has a bad escape.
+pub fn unescaped_len(s: &[u8]) -> usize {
+    unsafe { raw::leaves_unescaped_len(s.as_ptr(), s.len()) }
+}
+
+/// Writes what `s` reads as to the start of `out` and gives its length, or nothing where `s` has a bad escape. `s` is measured
+/// once: every escape stands for a character, so that only an empty text reads as an empty one.
 pub fn unescape(out: &mut [u8], s: &[u8]) -> Option<usize> {
-    let len = unescaped_len(s)?;
+    let len = unescaped_len(s);
+    if len == 0 && !s.is_empty() {
+        return None;
+    }
     assert!(len <= out.len());
     Some(unsafe { raw::leaves_unescape(out.as_mut_ptr(), out.len(), s.as_ptr(), s.len()) })
 }
@@ -102,6 +110,7 @@ pub fn joined_len(rest: &[u8]) -> usize {
     unsafe { raw::leaves_joined_len(rest.as_ptr(), rest.len()) }
 }
 
+/// Writes these pieces, so joined, to the start of `out`.
 pub fn join_into(out: &mut [u8], rest: &[u8]) {
     assert!(joined_len(rest) <= out.len());
     unsafe { raw::leaves_join_into(out.as_mut_ptr(), out.len(), rest.as_ptr(), rest.len()) }
@@ -133,31 +142,11 @@ pub fn same_letters(a: &[u8], b: &[u8]) -> bool {
     unsafe { raw::leaves_same_letters(a.as_ptr(), a.len(), b.as_ptr(), b.len()) }
 }
 
+/// Whether `pattern`, in lower case, stands in `text`, whose letters are of any ASCII case.
 pub fn says(text: &[u8], pattern: &[u8]) -> bool {
-    assert!(!pattern.is_empty());
     unsafe { raw::leaves_says(text.as_ptr(), text.len(), pattern.as_ptr(), pattern.len()) }
 }
 
 pub fn find_byte(s: &[u8], c: u8) -> usize {
     unsafe { raw::leaves_find_byte(s.as_ptr(), s.len(), c) }
-}
-
-/// Numbers that look random and are the same in every run (xorshift).
-pub struct Random(u64);
-
-impl Random {
-    pub fn new(seed: u64) -> Self {
-        Random(seed.max(1))
-    }
-
-    pub fn next(&mut self) -> u64 {
-        self.0 ^= self.0 << 13;
-        self.0 ^= self.0 >> 7;
-        self.0 ^= self.0 << 17;
-        self.0
-    }
-
-    pub fn below(&mut self, n: usize) -> usize {
-        (self.next() >> 11) as usize % n
-    }
 }

@@ -1,0 +1,293 @@
+//! Stores lent to both sides: what the call leaves here is held against what it must leave, byte by byte.
+
+use crate::call::{Call, Function::*, Lengths, Refusal, NOTHING_HELD};
+use crate::layout::{decode, layout, layout_alone, need, need_alone, record, record_alone};
+use crate::random::Random;
+use crate::raw::{self, Answer, HeaderRecord, Record};
+use source::cpim::{CpimHeader, CpimMessage};
+use std::fmt::Debug;
+use std::process::exit;
+
+/// How many bytes before and behind a lent store are watched.
+const MARGIN: usize = 64;
+
+/// A store as it is and as it must be.
+pub struct Store {
+    pub here: Vec<u8>,
+    pub there: Vec<u8>,
+}
+
+impl Store {
+    fn new(len: usize) -> Self {
+        let here = vec![0; len + 2 * MARGIN];
+        Store { there: here.clone(), here }
+    }
+
+    fn refill(&mut self, random: &mut Random) {
+        self.here.iter_mut().for_each(|b| *b = random.byte());
+        self.there.copy_from_slice(&self.here);
+    }
+
+    pub fn room(&self) -> usize {
+        self.here.len() - 2 * MARGIN
+    }
+
+    pub fn lent(&mut self, len: usize) -> &mut [u8] {
+        &mut self.here[MARGIN..][..len]
+    }
+
+    pub fn bytes(&self, len: usize) -> &[u8] {
+        &self.here[MARGIN..][..len]
+    }
+
+    /// Writes to both.
+    pub fn put(&mut self, at: usize, bytes: &[u8]) {
+        self.here[MARGIN + at..][..bytes.len()].copy_from_slice(bytes);
+        self.there[MARGIN + at..][..bytes.len()].copy_from_slice(bytes);
+    }
+
+    fn must(&mut self, bytes: &[u8]) {
+        self.there[MARGIN..][..bytes.len()].copy_from_slice(bytes);
+    }
+
+    /// The first places that differ, in what was lent and around it.
+    fn differences(&self, len: usize) -> Vec<isize> {
+        let end = len + 2 * MARGIN;
+        if self.here[..end] == self.there[..end] {
+            return Vec::new();
+        }
+        let places = (0..end).filter(|k| self.here[*k] != self.there[*k]);
+        places.map(|k| k as isize - MARGIN as isize).take(20).collect()
+    }
+}
+
+/// How often each answer was given: accepted (0), each number, 25 carrying 0 apart; and how often each function was called.
+#[derive(Clone, Default)]
+pub struct Tally {
+    pub answers: [u64; 27],
+    pub nothing_held: u64,
+    pub functions: [u64; 17],
+}
+
+pub struct Bench {
+    pub head: Store,
+    pub body: Store,
+    pub header_store: Store,
+    pub record: Record,
+    pub header_record: HeaderRecord,
+    pub message: Option<CpimMessage>,
+    pub header: Option<CpimHeader>,
+    pub list: Vec<(Call, Lengths, Refusal)>,
+    /// What was altered before the call.
+    pub note: String,
+    pub tally: Tally,
+}
+
+impl Bench {
+    pub fn new(body: usize) -> Self {
+        Bench {
+            head: Store::new(251_000),
+            body: Store::new(body),
+            header_store: Store::new(4_600),
+            record: Record::default(),
+            header_record: HeaderRecord::default(),
+            message: None,
+            header: None,
+            list: Vec::new(),
+            note: String::new(),
+            tally: Tally::default(),
+        }
+    }
+
+    /// Other bytes in all stores, the same for the same seed.
+    pub fn refill(&mut self, seed: usize) {
+        let mut random = Random::new(seed as u64);
+        for store in [&mut self.head, &mut self.body, &mut self.header_store] {
+            store.refill(&mut random);
+        }
+    }
+
+    /// A new list, on stores that are left as they are.
+    pub fn begin(&mut self) {
+        self.record = Record::default();
+        self.header_record = HeaderRecord::default();
+        self.message = None;
+        self.header = None;
+        self.list.clear();
+    }
+
+    #[cold]
+    fn differ(&self, what: &str, here: &dyn Debug, rust: &dyn Debug) -> ! {
+        let mut report = format!("A list of calls differs from the source: {what}.\nhere: {here:?}\nRust: {rust:?}\n");
+        report += &format!("record {:?}, header's record {:?}\n", self.record, self.header_record);
+        if !self.note.is_empty() {
+            report += &format!("altered: {}\n", self.note);
+        }
+        for (call, lengths, answer) in &self.list {
+            report += &format!("{call:?} {lengths:?} -> {answer:?}\n");
+        }
+        eprintln!("{report}");
+        exit(1)
+    }
+
+    fn count(&mut self, call: &Call, lengths: Lengths, answer: Refusal) {
+        self.tally.functions[call.function as usize] += 1;
+        if answer == NOTHING_HELD {
+            self.tally.nothing_held += 1;
+        } else {
+            self.tally.answers[answer.0 as usize] += 1;
+        }
+        self.list.push((call.clone(), lengths, answer));
+    }
+
+    /// What the source makes of the call, with room for everything.
+    pub fn after(&self, call: &Call) -> Result<CpimMessage, Refusal> {
+        call.message(self.message.as_ref(), self.header.as_ref())
+    }
+
+    pub fn header_after(&self, call: &Call) -> Result<CpimHeader, Refusal> {
+        call.header(self.header.as_ref())
+    }
+
+    fn is_held(&self, call: &Call, lengths: Lengths) -> bool {
+        let fits = |m: &CpimMessage| need(m) <= lengths.head && (!call.takes_body() || m.body().len() <= lengths.body);
+        let header_fits = |h: &CpimHeader| need_alone(h) <= lengths.header;
+        self.message.as_ref().is_some_and(fits)
+            && (call.function != AddObj || self.header.as_ref().is_some_and(header_fits))
+    }
+
+    /// A call on the message; `after` is what the source makes of it with room for everything.
+    pub fn run(&mut self, call: &Call, after: Result<CpimMessage, Refusal>, lengths: Lengths) {
+        let expected = if call.on_message() && !self.is_held(call, lengths) {
+            Err(NOTHING_HELD)
+        } else {
+            after.and_then(|m| call.room(&m, lengths).map(|()| m))
+        };
+        self.count(call, lengths, expected.as_ref().err().copied().unwrap_or_default());
+        let got = self.answer(call, lengths);
+        let (number, carried, left) = match &expected {
+            Ok(m) => {
+                self.head.must(&layout(m));
+                if call.takes_body() {
+                    self.body.must(m.body());
+                }
+                (0, 0, record(m))
+            }
+            Err((number, carried)) => {
+                (*number, *carried, if call.on_message() { self.record } else { Record::default() })
+            }
+        };
+        let want = Answer { number, carried, record: left };
+        if got != want {
+            self.differ("the answer", &got, &want);
+        }
+        self.record = left;
+        match expected {
+            Ok(m) => self.message = Some(m),
+            Err(_) if call.function == New => self.message = None,
+            Err(_) => {}
+        }
+        self.unchanged(call, lengths);
+    }
+
+    fn unchanged(&self, call: &Call, lengths: Lengths) {
+        let lent = [
+            ("head store", &self.head, lengths.head, !call.on_header()),
+            ("body store", &self.body, lengths.body, call.takes_body()),
+            ("header store", &self.header_store, lengths.header, call.on_header() || call.function == AddObj),
+        ];
+        for (name, store, len, _) in lent.into_iter().filter(|l| l.3) {
+            let places = store.differences(len);
+            if !places.is_empty() {
+                let at = |k: &isize| (*k + MARGIN as isize) as usize;
+                let here: Vec<u8> = places.iter().map(|k| store.here[at(k)]).collect();
+                let there: Vec<u8> = places.iter().map(|k| store.there[at(k)]).collect();
+                self.differ(&format!("bytes {places:?} of the {name} of {len} bytes"), &here, &there);
+            }
+        }
+    }
+
+    /// The message in the stores is the source's.
+    pub fn check_held(&self) {
+        if let Some(m) = &self.message {
+            let decoded = decode(self.record, self.head.bytes(self.head.room()));
+            if !decoded.as_ref().is_some_and(|d| d.is(m)) {
+                self.differ("the message held", &decoded, m);
+            }
+            let body = self.body.bytes(self.record.bodylen);
+            if body != m.body() {
+                self.differ("the body held", &body.len(), &m.body().len());
+            }
+        }
+    }
+
+    /// No byte differs anywhere, lent or not.
+    pub fn finish(&self) {
+        for store in [&self.head, &self.body, &self.header_store] {
+            if store.here != store.there {
+                self.differ("bytes that were not lent", &store.differences(store.room()), &"none");
+            }
+        }
+    }
+
+    /// A call on the header alone.
+    pub fn run_header(&mut self, call: &Call, after: Result<CpimHeader, Refusal>, lengths: Lengths) {
+        let held = self.header.as_ref().is_some_and(|h| need_alone(h) <= lengths.header);
+        let expected = if call.function == WithParam && !held {
+            Err(NOTHING_HELD)
+        } else {
+            after.and_then(|h| call.header_room(&h, lengths).map(|()| h))
+        };
+        self.count(call, lengths, expected.as_ref().err().copied().unwrap_or_default());
+        let store = self.header_store.lent(lengths.header);
+        let got = match call.function {
+            HeaderNew => raw::header_new(&call.first, store),
+            _ => raw::header_with_param(self.header_record, store, &call.first, &call.second),
+        };
+        let (number, carried, left) = match &expected {
+            Ok(h) => {
+                self.header_store.must(&layout_alone(h));
+                (0, 0, record_alone(h))
+            }
+            Err((n, c)) if call.function == WithParam => (*n, *c, self.header_record),
+            Err((n, c)) => (*n, *c, HeaderRecord::default()),
+        };
+        let want = Answer { number, carried, record: left };
+        if got != want {
+            self.differ("the answer", &got, &want);
+        }
+        self.header_record = left;
+        match expected {
+            Ok(h) => self.header = Some(h),
+            Err(_) if call.function == HeaderNew => self.header = None,
+            Err(_) => {}
+        }
+        self.unchanged(call, lengths);
+    }
+
+    /// The call itself.
+    fn answer(&mut self, call: &Call, lengths: Lengths) -> Answer<Record> {
+        let (m, a, b) = (self.record, &call.first, &call.second);
+        let head = self.head.lent(lengths.head);
+        let one = |f: raw::One, head: &mut [u8]| raw::one(f, m, head, a);
+        let two = |f: raw::Two, head: &mut [u8]| raw::two(f, m, head, a, b);
+        match call.function {
+            New => raw::new(a, b, head, self.body.lent(lengths.body)),
+            SetBody => raw::set_body(m, head, self.body.lent(lengths.body), a),
+            AddObj => raw::add_header_obj(m, head, a, self.header_record, self.header_store.bytes(lengths.header)),
+            SetHeader => two(raw::cpim_set_header, head),
+            AddHeader => two(raw::cpim_add_header, head),
+            AddContent => two(raw::cpim_add_content_header, head),
+            SubjectLang => two(raw::cpim_with_subject_lang, head),
+            Ns => two(raw::cpim_with_ns, head),
+            WithContent => two(raw::cpim_with_content_header, head),
+            From => one(raw::cpim_with_from, head),
+            To => one(raw::cpim_with_to, head),
+            DateTime => one(raw::cpim_with_datetime, head),
+            Subject => one(raw::cpim_with_subject, head),
+            Cc => one(raw::cpim_with_cc, head),
+            Require => one(raw::cpim_with_require, head),
+            HeaderNew | WithParam => unreachable!(),
+        }
+    }
+}

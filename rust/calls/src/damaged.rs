@@ -1,0 +1,242 @@
+//! Stores and records with something altered: a call answers by what they then hold, or with 25 carrying 0, and changes no byte.
+
+use crate::bench::Bench;
+use crate::call::{Call, Lengths};
+use crate::layout::{held, held_alone, need, need_alone};
+use crate::random::Random;
+use crate::raw::{HeaderRecord, Record};
+use crate::samples::{battery, header_battery, samples};
+
+/// The work in parts of about the same size; each part takes every so manieth alteration.
+pub const PARTS: usize = 32;
+
+const MOST_BODY: usize = 10_485_760;
+const BYTES: [u8; 9] = [0, 1, 16, b':', b';', b'a', 0x7F, 0x80, 0xFF];
+const NUMBERS: [usize; 24] = [
+    0,
+    1,
+    2,
+    10,
+    11,
+    15,
+    16,
+    17,
+    20,
+    21,
+    50,
+    51,
+    255,
+    256,
+    257,
+    1024,
+    MOST_BODY,
+    MOST_BODY + 1,
+    1 << 32,
+    1 << 63,
+    usize::MAX / 2,
+    usize::MAX - 255,
+    usize::MAX - 1,
+    usize::MAX,
+];
+
+/// The records and stores that a sample left.
+struct Sample {
+    record: Record,
+    header: HeaderRecord,
+    head: Vec<u8>,
+    body: Vec<u8>,
+    store: Vec<u8>,
+    need: usize,
+    header_need: usize,
+}
+
+/// What is altered beside the numbers of the records: bytes of the head store and of the header store, by place.
+#[derive(Clone, Debug)]
+struct Altered {
+    record: Record,
+    header: HeaderRecord,
+    head: Vec<(usize, u8)>,
+    store: Vec<(usize, u8)>,
+    lengths: Lengths,
+}
+
+impl Sample {
+    fn build(bench: &mut Bench, calls: &[Call]) -> Self {
+        bench.refill(3);
+        bench.begin();
+        let all = Lengths { head: bench.head.room(), body: bench.body.room(), header: bench.header_store.room() };
+        for call in calls {
+            if call.on_header() {
+                let after = bench.header_after(call);
+                bench.run_header(call, after, all);
+            } else {
+                let after = bench.after(call);
+                bench.run(call, after, all);
+            }
+        }
+        let need = need(bench.message.as_ref().unwrap());
+        let header_need = need_alone(bench.header.as_ref().unwrap());
+        Sample {
+            record: bench.record,
+            header: bench.header_record,
+            head: bench.head.bytes(need + 600).to_vec(),
+            body: bench.body.bytes(64).to_vec(),
+            store: bench.header_store.bytes(header_need + 600).to_vec(),
+            need,
+            header_need,
+        }
+    }
+
+    /// Nothing altered, in stores with some room to spare.
+    fn whole(&self) -> Altered {
+        let lengths = Lengths { head: self.need + 500, body: 40, header: self.header_need + 300 };
+        Altered { record: self.record, header: self.header, head: Vec::new(), store: Vec::new(), lengths }
+    }
+
+    fn run(&self, bench: &mut Bench, altered: &Altered, call: &Call) {
+        bench.begin();
+        bench.note = format!("{altered:?}");
+        bench.head.put(0, &self.head);
+        bench.body.put(0, &self.body);
+        bench.header_store.put(0, &self.store);
+        for (at, b) in &altered.head {
+            bench.head.put(*at, &[*b]);
+        }
+        for (at, b) in &altered.store {
+            bench.header_store.put(*at, &[*b]);
+        }
+        let lengths = altered.lengths;
+        bench.record = altered.record;
+        bench.header_record = altered.header;
+        let body = call.takes_body().then(|| bench.body.bytes(lengths.body));
+        bench.message = held(altered.record, bench.head.bytes(lengths.head), body);
+        bench.header = held_alone(altered.header, bench.header_store.bytes(lengths.header));
+        if call.on_header() {
+            let after = bench.header_after(call);
+            bench.run_header(call, after, lengths);
+        } else {
+            let after = bench.after(call);
+            bench.run(call, after, lengths);
+        }
+    }
+}
+
+/// The values that a byte is set to.
+fn bytes(b: u8) -> Vec<u8> {
+    let mut all = BYTES.to_vec();
+    all.extend([b.wrapping_add(1), b.wrapping_sub(1), b ^ 0x20, b ^ 0x80]);
+    all.retain(|v| *v != b);
+    all.sort();
+    all.dedup();
+    all
+}
+
+/// The values that a number is set to.
+fn numbers(n: usize) -> Vec<usize> {
+    let mut all = NUMBERS.to_vec();
+    all.extend([n.wrapping_add(1), n.wrapping_sub(1), n.wrapping_add(16), n.wrapping_sub(16), n + 256, n + (1 << 32)]);
+    all
+}
+
+fn fields(r: &mut Record) -> [&mut usize; 6] {
+    [&mut r.typelen, &mut r.headers, &mut r.headerlen, &mut r.contents, &mut r.contentlen, &mut r.bodylen]
+}
+
+fn header_fields(r: &mut HeaderRecord) -> [&mut usize; 3] {
+    [&mut r.valuelen, &mut r.params, &mut r.size]
+}
+
+/// Every alteration of the message, in order.
+fn message_altered(s: &Sample, random: &mut Random) -> Vec<Altered> {
+    let mut all = vec![s.whole()];
+    for at in 0..s.need + 4 {
+        all.extend(bytes(s.head[at]).into_iter().map(|b| Altered { head: vec![(at, b)], ..s.whole() }));
+    }
+    for len in 0..s.need + 300 {
+        all.push(Altered { lengths: Lengths { head: len, ..s.whole().lengths }, ..s.whole() });
+    }
+    for len in 0..40 {
+        all.push(Altered { lengths: Lengths { body: len, ..s.whole().lengths }, ..s.whole() });
+    }
+    for k in 0..6 {
+        let mut r = s.record;
+        for n in numbers(*fields(&mut r)[k]) {
+            let mut record = s.record;
+            *fields(&mut record)[k] = n;
+            all.push(Altered { record, ..s.whole() });
+        }
+    }
+    // An entry, and its bytes, counted on the other side; sums that are right only where they wrap.
+    for d in (0..400).chain([usize::MAX - 255, usize::MAX / 2, 1 << 63]) {
+        for sign in [d, d.wrapping_neg()] {
+            for count in [0, 1, usize::MAX] {
+                let mut record = s.record;
+                record.headers = record.headers.wrapping_add(count);
+                record.contents = record.contents.wrapping_sub(count);
+                record.headerlen = record.headerlen.wrapping_add(sign);
+                record.contentlen = record.contentlen.wrapping_sub(sign);
+                all.push(Altered { record, ..s.whole() });
+            }
+        }
+    }
+    // Two or three at once.
+    for _ in 0..6_000 {
+        let mut altered = s.whole();
+        for _ in 0..2 + random.below(2) {
+            let at = if random.once_in(4) { random.below(s.need) } else { 256 + random.below(s.need - 252) };
+            let b = bytes(s.head[at]);
+            altered.head.push((at, random.pick(&b)));
+        }
+        if random.once_in(2) {
+            let field = random.below(6);
+            let n = &mut *fields(&mut altered.record)[field];
+            *n = random.pick(&[n.wrapping_add(1), n.wrapping_sub(1)]);
+        }
+        all.push(altered);
+    }
+    all
+}
+
+/// Every alteration of the header alone.
+fn header_altered(s: &Sample, random: &mut Random) -> Vec<Altered> {
+    let mut all = vec![s.whole()];
+    for at in 0..s.header_need + 4 {
+        all.extend(bytes(s.store[at]).into_iter().map(|b| Altered { store: vec![(at, b)], ..s.whole() }));
+    }
+    for len in 0..s.header_need + 300 {
+        all.push(Altered { lengths: Lengths { header: len, ..s.whole().lengths }, ..s.whole() });
+    }
+    for k in 0..3 {
+        let mut r = s.header;
+        for n in numbers(*header_fields(&mut r)[k]) {
+            let mut header = s.header;
+            *header_fields(&mut header)[k] = n;
+            all.push(Altered { header, ..s.whole() });
+        }
+    }
+    for _ in 0..6_000 {
+        let mut altered = s.whole();
+        for n in header_fields(&mut altered.header) {
+            *n = random.pick(&[*n, *n, n.wrapping_add(1), n.wrapping_sub(1)]);
+        }
+        let at = random.below(s.header_need + 1);
+        let b = bytes(s.store[at]);
+        altered.store.push((at, random.pick(&b)));
+        all.push(altered);
+    }
+    all
+}
+
+pub fn part(bench: &mut Bench, part: usize) {
+    for calls in samples() {
+        let mut random = Random::new(11);
+        let s = Sample::build(bench, &calls);
+        for altered in message_altered(&s, &mut random).iter().skip(part).step_by(PARTS) {
+            battery().iter().for_each(|call| s.run(bench, altered, call));
+        }
+        for altered in header_altered(&s, &mut random).iter().skip(part).step_by(PARTS) {
+            header_battery().iter().for_each(|call| s.run(bench, altered, call));
+        }
+        bench.note.clear();
+    }
+}

@@ -1,0 +1,92 @@
+//! What the leaves cost, as ratios to Rust's standard library or to the source. The program starts itself three times, each time
+//! anew with all rows, and prints the lowest and the highest ratio in Markdown; one above a goal is in bold.
+
+mod measure;
+mod rows;
+mod texts;
+
+use rows::{Rows, NAMES, SIZES};
+use std::env;
+use std::process::{exit, Command};
+
+const RUNS: usize = 3;
+const ONE_RUN: &str = "one-run";
+
+/// A row of a table: for each size the nanoseconds of a call, here and there, of each run.
+struct Row {
+    table: String,
+    what: String,
+    goal: f64,
+    cells: Vec<Vec<(f64, f64)>>,
+}
+
+fn add(rows: &mut Vec<Row>, line: &str) -> Option<()> {
+    let parts: Vec<&str> = line.split('\t').collect();
+    let [table, what, goal, size, here, there] = parts[..] else { return None };
+    let size = SIZES.iter().position(|n| Some(*n) == size.parse().ok())?;
+    let goal = goal.parse().ok()?;
+    let at = rows.iter().position(|row| row.table == table && row.what == what).unwrap_or_else(|| {
+        let cells = vec![Vec::new(); SIZES.len()];
+        rows.push(Row { table: table.into(), what: what.into(), goal, cells });
+        rows.len() - 1
+    });
+    rows[at].cells[size].push((here.parse().ok()?, there.parse().ok()?));
+    Some(())
+}
+
+/// The lowest and the highest ratio.
+fn range(cell: &[(f64, f64)], goal: f64) -> String {
+    let ratios = || cell.iter().map(|(here, there)| here / there);
+    let (low, high) = (ratios().fold(f64::MAX, f64::min), ratios().fold(0.0, f64::max));
+    if cell.is_empty() {
+        String::new()
+    } else if high > goal {
+        format!("**{low:.2}–{high:.2}**")
+    } else {
+        format!("{low:.2}–{high:.2}")
+    }
+}
+
+/// Nanoseconds a byte at the greatest size of the row, here and there: the middle of the runs.
+fn cost(row: &Row) -> String {
+    let Some((cell, size)) = row.cells.iter().zip(SIZES).rfind(|(cell, _)| !cell.is_empty()) else { return "".into() };
+    let middle = |pick: fn(&(f64, f64)) -> f64| {
+        let mut all: Vec<f64> = cell.iter().map(pick).collect();
+        all.sort_by(f64::total_cmp);
+        all[all.len() / 2] / size as f64
+    };
+    format!("{:.3}, {:.3}", middle(|t| t.0), middle(|t| t.1))
+}
+
+fn main() {
+    if env::args().nth(1).as_deref() == Some(ONE_RUN) {
+        return Rows::new().all();
+    }
+    let mut rows = Vec::new();
+    for _ in 0..RUNS {
+        let run = env::current_exe().and_then(|this| Command::new(this).arg(ONE_RUN).output());
+        match run {
+            Ok(run) if run.status.success() => {
+                for line in String::from_utf8_lossy(&run.stdout).lines() {
+                    add(&mut rows, line).expect(line);
+                }
+            }
+            Ok(run) => {
+                eprintln!("{}", String::from_utf8_lossy(&run.stderr));
+                exit(1);
+            }
+            Err(e) => panic!("{e}"),
+        }
+    }
+    let mut table = "";
+    for row in &rows {
+        if row.table != table {
+            table = &row.table;
+            println!("\n### {table}\n");
+            println!("| bytes | {} | ns a byte here, there |", NAMES.join(" | "));
+            println!("|---|{}---|", "---|".repeat(SIZES.len()));
+        }
+        let cells: Vec<String> = row.cells.iter().map(|cell| range(cell, row.goal)).collect();
+        println!("| {} | {} | {} |", row.what, cells.join(" | "), cost(row));
+    }
+}
