@@ -19,7 +19,7 @@ use Rattle.format.specs.Layout.{Lent, entryBytes, layoutEntry}
 use Rattle.format.specs.Lending.{lengths, leaves, Changed}
 use Rattle.format.specs.declared.Numbers.{Numbers}
 use Rattle.format.proofs.Characters.Chars.{utf8-ascii-text}
-use Rattle.format.proofs.Examples.Computing.{computing}
+use Rattle.format.proofs.Computing.{computing}
 use Rattle.format.proofs.Answers.{over-limit}
 use Rattle.octets.proofs.Paste.{pasted-start, pasted-pasted}
 use Rattle.store.proofs.Splicing.{entry-length}

@@ -8,4 +8,4 @@ pub mod Splitting
 pub mod Messages
 pub mod Texts
 pub mod Demand3
-pub mod Examples
+pub mod Computing

@@ -15,6 +15,3 @@ pub mod Layout
 pub mod Lending
 pub mod Runs
 pub mod Demand3
-pub mod Specimens
-pub mod Examples
-pub mod Rules

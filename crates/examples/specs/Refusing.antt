@@ -1,18 +1,18 @@
--- Document 01, "Refusals by number": the example of each row of the table, and the limits at and one past; proved in proofs/Examples/Refusals.antt. Assumes nothing.
+-- Document 01, "Refusals by number": the example of each row of the table, and the limits at and one past; proved in proofs/Refusing.antt. Assumes nothing.
 use Prim.Native.Nat.{ℕ}
 use mathlib.Core.Path.{_≡_}
 use mathlib.Core.List.{List, [], _∷_, _++_}
 use mathlib.Core.Option.{none, some}
 use lib.ListN.{length, replicate}
 use Rattle.format.specs.Bytes.{Bytes, ascii, texts}
 use Rattle.format.specs.Refusals.{_carrying_, numbers, pass}
 use Rattle.format.specs.declared.Numbers.{Numbers}
 use Rattle.format.specs.Validators.{headerName, headerValue, contentValue, paramName, paramValue, contentType}
 use Rattle.format.specs.Message.{Entry, entry, LoneHeader, Message}
 use Rattle.format.specs.Calls.{Stores, new, addHeader, setHeader, addParam, setBody, answer, add-header, withParam}
 use Rattle.format.specs.Writing.{toText}
 use Rattle.format.specs.Reading.{read}
-use Rattle.format.specs.Specimens.{roomy, single}
+use Rattle.examples.specs.Specimens.{roomy, single}
 
 -- a text with this header line and this content line
 abbrev pub notice : Bytes → Bytes → Bytes

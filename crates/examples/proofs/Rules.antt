@@ -2,17 +2,17 @@
 use Prim.Native.Nat.{ℕ}
 use mathlib.Core.Path.{_≡_, refl}
 use lib.ListN.{length}
 use Rattle.format.specs.Bytes.{Bytes, ascii}
 use Rattle.format.specs.Refusals.{accepted, numbers, table, _carrying_, refuseIf, atMost, _>>=_, _>>_}
 use Rattle.format.specs.Calls.{bodyLength}
 use Rattle.format.specs.Reading.{read, Parts, textParts}
 use Rattle.format.specs.LookingUp.{bodyOfText, findBody}
 use Rattle.format.specs.Writing.{writes}
 use Rattle.format.specs.Lending.{makes, leaves, makesHeader, leavesHeader}
 use Rattle.format.specs.Showing.{digitsFrom, decimal, showNumbers, showMessage, show, showcpim}
-use Rattle.format.specs.Specimens.{roomy}
-use Rattle.format.specs.Rules.{Mistakes, Order, Rules, Lookups, Refused, Shown}
-use Rattle.format.proofs.Examples.Computing.{computing}
+use Rattle.examples.specs.Specimens.{roomy}
+use Rattle.examples.specs.Rules.{Mistakes, Order, Rules, Lookups, Refused, Shown}
+use Rattle.format.proofs.Computing.{computing}
 
 pub mistakes : Mistakes
 unfolding computing

@@ -1,25 +1,25 @@
 -- Document 01, "Specimens" and the sections before it: the mistakes to expect, the order of checks where two faults meet, and worked examples of its rules and of Unicode
--- chapter 3; proved in proofs/Examples/Rules.antt. Assumes nothing.
+-- chapter 3; proved in proofs/Rules.antt. Assumes nothing.
 use Prim.Native.Nat.{ℕ, _^_}
 use mathlib.Core.Path.{_≡_}
 use mathlib.Core.Bool.{true, false}
 use mathlib.Core.List.{[], _∷_, _++_}
 use mathlib.Core.Option.{none, some}
 use lib.ListN.{length, replicate}
 use Rattle.format.specs.Bytes.{Bytes, ascii, texts}
 use Rattle.format.specs.Characters.{trim, replaced, replacement}
 use Rattle.format.specs.Escaping.{escape, unescape}
 use Rattle.format.specs.Refusals.{Refusal, accepted, refused, _carrying_, numbers}
 use Rattle.format.specs.Message.{entry, Message}
 use Rattle.format.specs.Calls.{new, setHeader, addHeader, addContentHeader, withParam, answer, add-header-obj, with-ns, with-subject-lang}
 use Rattle.format.specs.Reading.{read, readHeader, Parts, textParts}
 use Rattle.format.specs.LookingUp.{address, getHeader, getHeaderValue, getParam, getType, getBody, getContent, aloneValue, aloneParam, countHeaders, countParams, countContents, bodyAsStr, findBody, bodyLengthOf, bufferAfter, bodyPart}
 use Rattle.format.specs.Showing.{show, showcpim}
 use Rattle.format.specs.Writing.{writes}
 use Rattle.format.specs.Layout.{Lent, emptyMessage, emptyHeader}
 use Rattle.format.specs.Lending.{makes, leaves, zeroed, zeroedLent, ReadLeaves, LentHeader, makesHeader, leavesHeader}
-use Rattle.format.specs.Specimens.{roomy, single, back, withTwenty, twoSections}
-use Rattle.format.specs.Examples.{notice, readHeaderOf, readContentOf, letters, headersOf, paramsOf}
+use Rattle.examples.specs.Specimens.{roomy, single, back, withTwenty, twoSections}
+use Rattle.examples.specs.Refusing.{notice, readHeaderOf, readContentOf, letters, headersOf, paramsOf}
 
 -- The mistakes to expect are not made.
 pub record Mistakes : Type 0 where

@@ -1,0 +1,4 @@
+-- The tables proved, each as a whole.
+mod Specimens
+mod Refusing
+mod Rules

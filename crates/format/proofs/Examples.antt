@@ -1,4 +1,0 @@
-pub mod Computing
-pub mod Specimens
-pub mod Refusals
-pub mod Rules
