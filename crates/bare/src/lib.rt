@@ -1,7 +1,7 @@
 // Whether a header value is written as it is: no byte of it is an ASCII control, a quote, a backslash, or the lead byte
 // C2 of the two-byte controls. Most values are, and are then copied whole.
 
-use octets::has_byte;
+use finding::has_byte;
 ghost use mathlib.Core.Path.{_≡_};
 ghost use lib.ListN.{length};
 ghost use Rattle.format.specs.Bytes.{all, any};

@@ -1,7 +1,7 @@
 // Document 01, "Reading": a line before and behind its first colon, a part before and behind its first `=`, and the parts
 // between `;`, of which the first is what stands before the first `;`, and the others are those of what stands behind it.
 
-use octets::find_byte;
+use finding::find_byte;
 ghost use mathlib.Core.Path.{_≡_};
 ghost use mathlib.Core.List.{[], _∷_};
 ghost use Rattle.format.specs.Bytes.{if_then_else_, has, upTo, past, pieces, split};

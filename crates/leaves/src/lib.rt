@@ -151,7 +151,7 @@ pub extern "C" fn leaves_shift(s: &mut [u8], from: usize, to: usize, n: usize)
     requires { ⌜ (from + n ≤ length (now s)) × (to + n ≤ length (now s)) ⌝ }
     ensures { λ _. ⌜ now (s .exit) ≡ pasted to (take n (drop from (now (s .entry)))) (now (s .entry)) ⌝ }
 {
-    octets::shift(s, from, to, n)
+    shifting::shift(s, from, to, n)
 }
 
 #[no_mangle]
@@ -193,5 +193,5 @@ pub extern "C" fn leaves_says(text: &[u8], pattern: &[u8]) -> bool
 pub extern "C" fn leaves_find_byte(s: &[u8], c: u8) -> usize
     ensures { λ r. ⌜ r ≡ length (upTo c (now (s .entry))) ⌝ }
 {
-    octets::find_byte(s, c)
+    finding::find_byte(s, c)
 }

@@ -3,7 +3,7 @@
 
 use format::Numbers;
 use octets::copy_at;
-use octets::shift;
+use shifting::shift;
 ghost use mathlib.Core.Path.{_≡_};
 ghost use mathlib.Core.List.{_++_};
 ghost use Prim.Native.Nat.{_+_, _-_, _≤_, _<_};

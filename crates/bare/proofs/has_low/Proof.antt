@@ -9,7 +9,7 @@ use borrow.Author.Needs.{needs}
 use borrow.Author.Tests.{lt-ltb, le-ltb}
 use Rattle.format.specs.Bytes.{any}
 use Rattle.bare.specs.Bare.{isLow}
-use Rattle.octets.proofs.Looking.{any-start, any-hit, any-miss}
+use Rattle.finding.proofs.Looking.{any-start, any-hit, any-miss}
 use Rattle.bare.proofs.has_low.Statement.{statement}
 use Rattle.bare.proofs.has_low.Tie as tie
 

@@ -1,7 +1,7 @@
 -- `has` meets its contract: a place before the end is that of the byte.
 use mathlib.Core.Path.{sym}
 use borrow.Author.Needs.{needs}
-use Rattle.octets.proofs.Find.{found-has}
+use Rattle.finding.proofs.Find.{found-has}
 use Rattle.fields.proofs.has.Statement.{statement}
 use Rattle.fields.proofs.has.Tie as tie
 

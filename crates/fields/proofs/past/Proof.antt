@@ -5,7 +5,7 @@ use native.Mathlib.Omega.{arith}
 use borrow.Author.Needs.{needs}
 use lib.ListN.{length, take, drop, drop-of-length-le}
 use Rattle.format.proofs.Lists.{rest-is}
-use Rattle.octets.proofs.Find.{found-within, found-past}
+use Rattle.finding.proofs.Find.{found-within, found-past}
 use Rattle.fields.proofs.Splits.{as-others}
 use Rattle.fields.proofs.past.Statement.{statement}
 use Rattle.fields.proofs.past.Tie as tie

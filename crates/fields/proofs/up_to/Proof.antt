@@ -3,7 +3,7 @@ use mathlib.Core.Path.{sym}
 use borrow.Author.Needs.{needs}
 use lib.ListN.{take}
 use lib.Seq.{length-take-le}
-use Rattle.octets.proofs.Find.{found-within, found-upTo}
+use Rattle.finding.proofs.Find.{found-within, found-upTo}
 use Rattle.fields.proofs.Splits.{as-first}
 use Rattle.fields.proofs.up_to.Statement.{statement}
 use Rattle.fields.proofs.up_to.Tie as tie

@@ -1,13 +1,13 @@
--- `octets::shift_right` meets its contract. The invariant: the bytes from i on are moved. Assumes nothing.
+-- `shifting::shift_right` meets its contract. The invariant: the bytes from i on are moved. Assumes nothing.
 use mathlib.Core.Path.{_≡_, refl}
 use Prim.Native.Nat.{_+_, _-_, _≤_}
 use native.Mathlib.Omega.{arith}
 use lib.ListN.{length, take, drop}
 use borrow.Author.Needs.{needs}
 use Rattle.format.specs.Bytes.{pasted}
-use Rattle.octets.proofs.Shifting.{shifted-right, shifted-none}
-use Rattle.octets.proofs.shift_right.Statement.{statement}
-use Rattle.octets.proofs.shift_right.Tie as tie
+use Rattle.shifting.proofs.Shifting.{shifted-right, shifted-none}
+use Rattle.shifting.proofs.shift_right.Statement.{statement}
+use Rattle.shifting.proofs.shift_right.Tie as tie
 
 abbrev Inv-loop : tie.InvT-loop
 Inv-loop s₀ from to n i₀ s i = (i ≤ n) × (s ≡ pasted (to + i) (drop i (take n (drop from s₀))) s₀) × (length s ≡ length s₀)

@@ -1,4 +1,4 @@
--- `octets::has_byte` meets its contract. The invariant: hit says whether one of the first k bytes is c. Assumes nothing.
+-- `finding::has_byte` meets its contract. The invariant: hit says whether one of the first k bytes is c. Assumes nothing.
 use mathlib.Core.Path.{_≡_, sym, ap, _∙_}
 use mathlib.Core.Logic.{⊎-elim}
 use Prim.Native.Nat.{_-_, _≤_}
@@ -9,9 +9,9 @@ use lib.Seq.{take-all}
 use borrow.Author.Needs.{needs}
 use borrow.Author.Tests.{eq-eqb, ne-eqb}
 use Rattle.format.specs.Bytes.{any}
-use Rattle.octets.proofs.Looking.{any-start, any-hit, any-miss}
-use Rattle.octets.proofs.has_byte.Statement.{statement}
-use Rattle.octets.proofs.has_byte.Tie as tie
+use Rattle.finding.proofs.Looking.{any-start, any-hit, any-miss}
+use Rattle.finding.proofs.has_byte.Statement.{statement}
+use Rattle.finding.proofs.has_byte.Tie as tie
 
 abbrev Inv-loop : tie.InvT-loop
 Inv-loop block c hit₀ k₀ hit k = (k ≤ 16) × (hit ≡ any (eqb c) (take k block))

@@ -1,11 +1,11 @@
--- `octets::shift_part` meets its contract: the front of the local array is the part that was read. Assumes nothing.
+-- `shifting::shift_part` meets its contract: the front of the local array is the part that was read. Assumes nothing.
 use Prim.Native.Nat.{_+_, _-_}
 use native.Mathlib.Omega.{arith}
 use lib.ListN.{length-take}
 use borrow.Author.Needs.{needs}
-use Rattle.octets.proofs.Shifting.{shifted-part}
-use Rattle.octets.proofs.shift_part.Statement.{statement}
-use Rattle.octets.proofs.shift_part.Tie as tie
+use Rattle.shifting.proofs.Shifting.{shifted-part}
+use Rattle.shifting.proofs.shift_part.Statement.{statement}
+use Rattle.shifting.proofs.shift_part.Tie as tie
 
 add-end : tie.Need-add-end
 add-end c = search needs

@@ -1,4 +1,4 @@
--- `octets::find_byte` meets its contract. The invariant: the place is i and what is found behind i; a block without a c moves it on by 16. Assumes nothing.
+-- `finding::find_byte` meets its contract. The invariant: the place is i and what is found behind i; a block without a c moves it on by 16. Assumes nothing.
 use mathlib.Core.Path.{_≡_, sym, ap, _∙_}
 use mathlib.Core.Bool.{false}
 use Prim.Native.Nat.{ℕ, _+_, _-_, _≤_}
@@ -7,9 +7,9 @@ use lib.ListN.{length, take, drop, length-take, length-drop}
 use lib.Seq.{take-all, drop-drop}
 use borrow.Author.Needs.{needs}
 use Rattle.format.specs.Bytes.{Bytes, has, upTo}
-use Rattle.octets.proofs.Find.{found-within, upTo-skip}
-use Rattle.octets.proofs.find_byte.Statement.{statement}
-use Rattle.octets.proofs.find_byte.Tie as tie
+use Rattle.finding.proofs.Find.{found-within, upTo-skip}
+use Rattle.finding.proofs.find_byte.Statement.{statement}
+use Rattle.finding.proofs.find_byte.Tie as tie
 
 abbrev Inv-loop : tie.InvT-loop
 Inv-loop s c i₀ i = (i ≤ length s) × (length (upTo c s) ≡ i + length (upTo c (drop i s)))

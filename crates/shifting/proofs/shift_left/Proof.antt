@@ -1,14 +1,14 @@
--- `octets::shift_left` meets its contract. The invariant: the first i bytes are moved. Assumes nothing.
+-- `shifting::shift_left` meets its contract. The invariant: the first i bytes are moved. Assumes nothing.
 use mathlib.Core.Path.{_≡_, refl, sym}
 use Prim.Native.Nat.{_+_, _-_, _≤_}
 use native.Mathlib.Omega.{arith}
 use lib.ListN.{length, take, drop}
 use borrow.Author.Needs.{needs}
 use Rattle.format.specs.Bytes.{pasted}
 use Rattle.octets.proofs.Paste.{pasted-nil}
-use Rattle.octets.proofs.Shifting.{shifted-left}
-use Rattle.octets.proofs.shift_left.Statement.{statement}
-use Rattle.octets.proofs.shift_left.Tie as tie
+use Rattle.shifting.proofs.Shifting.{shifted-left}
+use Rattle.shifting.proofs.shift_left.Statement.{statement}
+use Rattle.shifting.proofs.shift_left.Tie as tie
 
 abbrev Inv-loop : tie.InvT-loop
 Inv-loop s₀ from to n i₀ s i = (i ≤ n) × (s ≡ pasted to (take i (drop from s₀)) s₀) × (length s ≡ length s₀)

@@ -1,13 +1,13 @@
--- `octets::find_plain` meets its contract. The invariant: the place is i and what is found behind i. Assumes nothing.
+-- `finding::find_plain` meets its contract. The invariant: the place is i and what is found behind i. Assumes nothing.
 use mathlib.Core.Path.{_≡_}
 use Prim.Native.Nat.{_+_, _-_, _≤_}
 use native.Mathlib.Omega.{arith}
 use lib.ListN.{length, drop}
 use borrow.Author.Needs.{needs}
 use Rattle.format.specs.Bytes.{upTo}
-use Rattle.octets.proofs.Find.{upTo-found, upTo-other, upTo-end}
-use Rattle.octets.proofs.find_plain.Statement.{statement}
-use Rattle.octets.proofs.find_plain.Tie as tie
+use Rattle.finding.proofs.Find.{upTo-found, upTo-other, upTo-end}
+use Rattle.finding.proofs.find_plain.Statement.{statement}
+use Rattle.finding.proofs.find_plain.Tie as tie
 
 abbrev Inv-loop : tie.InvT-loop
 Inv-loop s c i₀ i = (i ≤ length s) × (length (upTo c s) ≡ i + length (upTo c (drop i s)))
