@@ -20,9 +20,8 @@ use Rattle.format.proofs.Messages.Parts.{message-parts}
 use Rattle.entries.specs.Stored.{shapedAll, entriesIn}
 use Rattle.held.specs.Holding.{messageHolds}
 use Rattle.held.specs.Decoding.{messageIn}
-use Rattle.held.proofs.Parts.{HeldParts, held-parts}
+use Rattle.held.proofs.Parts.{HeldParts, part-of, held-parts}
 use Rattle.held.proofs.Cases.{in-head, not-held, head-held, body-held, body-short}
-use Rattle.held.proofs.Tests.{part-of}
 use Rattle.parts.specs.Found.{Found}
 use Rattle.nth.specs.Listed.{Listed}
 use Rattle.nth.proofs.Lists.{headers-params}

@@ -13,10 +13,9 @@ use Rattle.format.specs.LookingUp.{nth, aloneValue, aloneParam}
 use Rattle.format.specs.declared.CpimHeader.{CpimHeader}
 use Rattle.held.specs.Holding.{headerHolds}
 use Rattle.held.specs.Decoding.{headerIn}
-use Rattle.held.proofs.Parts.{AloneParts, alone-parts}
+use Rattle.held.proofs.Parts.{AloneParts, part-of, alone-parts}
 use Rattle.held.proofs.Alone.{held-alone-holds}
 use Rattle.held.proofs.Cases.{alone-held, alone-not-held}
-use Rattle.held.proofs.Tests.{part-of}
 use Rattle.parts.specs.Found.{Found}
 use Rattle.nth.specs.Listed.{Listed}
 use Rattle.alone.specs.Params.{paramsHeld}

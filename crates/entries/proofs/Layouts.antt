@@ -11,7 +11,7 @@ use Rattle.format.specs.Message.{Entry, Header, needEntry, needAlone, needHeade
 use Rattle.format.specs.Layout.{layoutEntry, layoutHeader}
 use Rattle.format.proofs.Messages.Layout.{entries-length}
 use Rattle.entries.specs.Stored.{Stored, storedBytes, storedSize, storedEntry, storedHeader, shapedAll, entriesIn}
-use Rattle.entries.proofs.Shapes.{entries-read, entries-shaped}
+use Rattle.entries.proofs.Sequences.{entries-read, entries-shaped}
 
 -- one
 pub entry-bytes : (e : Entry) → layoutEntry e ≡ storedBytes (storedEntry e)

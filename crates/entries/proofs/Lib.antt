@@ -1,5 +1,5 @@
 pub mod Shapes
+pub mod Zeros
+pub mod Reading
+pub mod Sequences
 pub mod Layouts
-pub mod Walks
-pub mod Groups
-pub mod Placing

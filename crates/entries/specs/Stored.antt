@@ -1,11 +1,11 @@
 -- Entries read from a store: what stands where in bytes that begin with one, by the layout of crates/format/specs/Layout.antt.
 -- Assumes nothing.
 use Prim.Native.Nat.{ℕ, zero, suc, _+_, _*_}
-use mathlib.Core.Bool.{Bool, true, false, _&&_}
+use mathlib.Core.Bool.{Bool, _&&_}
 use mathlib.Core.List.{List, [], _∷_}
 use lib.Dec.{leb, ltb, eqb}
 use lib.ListN.{length, take, drop, getD}
-use Rattle.format.specs.Bytes.{Bytes, if_then_else_, isEmpty, all, texts, same, before}
+use Rattle.format.specs.Bytes.{Bytes, isEmpty, all, texts}
 use Rattle.format.specs.Message.{Entry, Header}
 use Rattle.format.specs.Layout.{entryBytes, layoutEntry}
 
@@ -76,29 +76,3 @@ shapedAll (suc n) s = shaped s && shapedAll n (drop (sizeIn s) s)
 unfoldable pub entriesIn : ℕ → Bytes → List Stored
 entriesIn zero s = []
 entriesIn (suc n) s = storedIn s ∷ entriesIn n (drop (sizeIn s) s)
-
-module _ {A : Type 0} where
-  -- the elements before the first that fails the test
-  unfoldable pub whilst : (A → Bool) → List A → List A
-  whilst p [] = []
-  whilst p (x ∷ xs) = if p x then x ∷ whilst p xs else []
-
-  -- and the others
-  unfoldable pub after : (A → Bool) → List A → List A
-  after p [] = []
-  after p (x ∷ xs) = if p x then after p xs else x ∷ xs
-
--- a name is this very one, or before it
-unfoldable pub isPassed : Bool → Bytes → Bytes → Bool
-isPassed true name other = same name other
-isPassed false name other = before other name
-
-abbrev pub passedOver : Bool → Bytes → Stored → Bool
-passedOver equal name e = isPassed equal name (e .name)
-
--- of entries in the order of their names: those of names before this one, and those of this name
-abbrev pub under : Bytes → List Stored → List Stored
-under name es = whilst (passedOver false name) es
-
-abbrev pub ofName : Bytes → List Stored → List Stored
-ofName name es = whilst (passedOver true name) (after (passedOver false name) es)

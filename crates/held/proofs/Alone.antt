@@ -20,11 +20,13 @@ use Rattle.format.specs.declared.CpimHeader.{CpimHeader}
 use Rattle.format.proofs.Lists.{and-intro}
 use Rattle.format.proofs.Messages.Layout.{entries-length}
 use Rattle.format.proofs.Messages.Parts as valid
-use Rattle.entries.proofs.Shapes.{all-zero, zero-all}
-use Rattle.held.specs.Holding.{entriesHold, sizesHold, valuePart, paramsPart, headerHolds}
-use Rattle.held.specs.Decoding.{entriesFrom, headerIn}
-use Rattle.held.specs.declared.Kind.the-variants.{Param}
-use Rattle.held.proofs.Entries.{params-listed, params-hold}
+use Rattle.entries.proofs.Zeros.{all-zero, zero-all}
+use Rattle.judging.specs.Judging.{entriesHold}
+use Rattle.held.specs.Holding.{sizesHold, valuePart, paramsPart, headerHolds}
+use Rattle.judging.specs.Listed.{entriesFrom}
+use Rattle.held.specs.Decoding.{headerIn}
+use Rattle.kinds.specs.declared.Kind.the-variants.{Param}
+use Rattle.judging.proofs.Entries.{params-listed, params-hold}
 use Rattle.held.proofs.Parts.{both, alone-parts}
 
 -- What the sizes say.

@@ -1,10 +1,5 @@
-pub mod Names
-pub mod Entries
-pub mod Headers
 pub mod Parts
 pub mod Messages
 pub mod Alone
 pub mod Held
 pub mod Cases
-pub mod Tests
-pub mod Walks

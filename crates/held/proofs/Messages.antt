@@ -21,12 +21,14 @@ use Rattle.format.specs.declared.CpimMessage.{CpimMessage}
 use Rattle.format.proofs.Lists.{and-intro}
 use Rattle.format.proofs.Messages.Layout.{entries-length, headers-length}
 use Rattle.format.proofs.Messages.Parts.{message-parts, message-whole}
-use Rattle.entries.proofs.Shapes.{all-zero, zero-all}
-use Rattle.held.specs.Holding.{entriesHold, headersHold, typeHolds, numbersHold, typePart, headersPart, contentsPart, messageHolds}
-use Rattle.held.specs.Decoding.{entriesFrom, headersFrom, messageIn}
-use Rattle.held.specs.declared.Kind.the-variants.{Content}
-use Rattle.held.proofs.Entries.{contents-listed, contents-hold}
-use Rattle.held.proofs.Headers.{headers-listed, headers-hold}
+use Rattle.entries.proofs.Zeros.{all-zero, zero-all}
+use Rattle.judging.specs.Judging.{entriesHold, headersHold}
+use Rattle.held.specs.Holding.{typeHolds, numbersHold, typePart, headersPart, contentsPart, messageHolds}
+use Rattle.judging.specs.Listed.{entriesFrom, headersFrom}
+use Rattle.held.specs.Decoding.{messageIn}
+use Rattle.kinds.specs.declared.Kind.the-variants.{Content}
+use Rattle.judging.proofs.Entries.{contents-listed, contents-hold}
+use Rattle.judging.proofs.Headers.{headers-listed, headers-hold}
 use Rattle.held.proofs.Parts.{both, padded, held-parts}
 
 -- What the numbers say.

@@ -22,6 +22,12 @@ use Rattle.held.specs.Holding.{typePart, headersPart, contentsPart, valu
 pub both : (a b : Bool) → (a && b) ≡ true → (a ≡ true) × (b ≡ true)
 both a b h = (and-left a b h, and-right a b h)
 
+-- a part from a place on, of so many bytes
+pub part-of : (at n : ℕ) (s : Bytes) → take (at + n - at) (drop at s) ≡ take n (drop at s)
+part-of at n s =
+    let e : at + n - at ≡ n = omega arith in
+    ap (λ (k : ℕ). take k (drop at s)) e
+
 -- Bytes in three parts and a rest: each stands behind those before it.
 pub record Cut (a b c : Bytes) (n m k : ℕ) (s : Bytes) : Type 0 where
   pub first : take n s ≡ a

@@ -1,66 +1,19 @@
 -- Whether a record and a store hold a message, or a header alone, as a walk over any bytes at all: lengths and counts, then entry by
 -- entry. proofs/Held.antt has that this is `Holds` of crates/format/specs/Layout.antt. Assumes nothing.
-use Prim.Native.Nat.{ℕ, zero, suc, _+_, _-_}
-use mathlib.Core.Bool.{Bool, not, _&&_}
+use Prim.Native.Nat.{ℕ, _+_, _-_}
+use mathlib.Core.Bool.{Bool, _&&_}
 use mathlib.Core.List.{[]}
 use lib.Dec.{leb, eqb}
 use lib.ListN.{length, take, drop}
-use Rattle.format.specs.Bytes.{Bytes, isEmpty, all, before}
+use Rattle.format.specs.Bytes.{Bytes, all}
 use Rattle.format.specs.Characters.{isUtf8}
 use Rattle.format.specs.Limits.{maxHeaders, maxParams, maxContents, maxBody}
-use Rattle.format.specs.Refusals.{Check, passes}
-use Rattle.format.specs.Validators.{headerName, headerValue, contentValue, paramName, paramValue, contentType}
+use Rattle.format.specs.Refusals.{passes}
+use Rattle.format.specs.Validators.{headerValue, contentType}
 use Rattle.format.specs.declared.CpimMessage.{CpimMessage}
 use Rattle.format.specs.declared.CpimHeader.{CpimHeader}
-use Rattle.entries.specs.Stored.{Stored, shaped, sizeIn, nameIn, storedIn, entriesIn}
-use Rattle.held.specs.declared.Kind.{Kind}
-use Rattle.held.specs.declared.Kind.the-variants.{Header, Param, Content}
-
--- the validators of names and of values
-unfoldable pub nameCheck : Kind → Bytes → Check
-nameCheck Header n = headerName n
-nameCheck Param n = paramName n
-nameCheck Content n = headerName n
-
-unfoldable pub valueCheck : Kind → Bytes → Check
-valueCheck Header v = headerValue v
-valueCheck Param v = paramValue v
-valueCheck Content v = contentValue v
-
--- parameters have none of their own, and neither have content headers
-unfoldable pub paramsFit : Kind → ℕ → Bytes → Bool
-paramsFit Header k t = leb k maxParams
-paramsFit Param k t = eqb k 0 && isEmpty t
-paramsFit Content k t = eqb k 0 && isEmpty t
-
--- a name that may stand behind another one; behind none (the empty name) any may
-unfoldable pub follows : Kind → Bytes → Bytes → Bool
-follows Header last name = not (before name last)
-follows Param last name = before last name
-follows Content last name = before last name
-
--- an entry within limits and validators, its parameters not looked into
-unfoldable pub fits : Kind → Stored → Bool
-fits k e =
-    passes (nameCheck k (e .name))
-    && (passes (valueCheck k (e .value)) && (paramsFit k (e .params) (e .tail) && (isUtf8 (e .name) && isUtf8 (e .value))))
-
--- s begins with such an entry, whose name may stand behind the last one
-unfoldable pub entryHolds : Kind → Bytes → Bytes → Bool
-entryHolds k last s = shaped s && (fits k (storedIn s) && follows k last (nameIn s))
-
--- s is n such entries
-unfoldable pub entriesHold : Kind → ℕ → Bytes → Bytes → Bool
-entriesHold k zero last s = isEmpty s
-entriesHold k (suc n) last s = entryHolds k last s && entriesHold k n (nameIn s) (drop (sizeIn s) s)
-
--- the bytes behind a header's value are its parameters
-unfoldable pub tailHolds : Stored → Bool
-tailHolds e = entriesHold Param (e .params) [] (e .tail)
-
--- s is n headers with their parameters
-unfoldable pub headersHold : ℕ → Bytes → Bool
-headersHold n s = entriesHold Header n [] s && all tailHolds (entriesIn n s)
+use Rattle.kinds.specs.declared.Kind.the-variants.{Param, Content}
+use Rattle.judging.specs.Judging.{entriesHold, headersHold}
 
 -- the first 256 bytes are a type of n bytes, and zeros
 unfoldable pub typeHolds : ℕ → Bytes → Bool

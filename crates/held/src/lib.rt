@@ -1,165 +1,24 @@
-// Whether a record and lent stores hold a message, or a header alone: any numbers and any bytes are judged, in bounds and entry
-// by entry (specs/Holding.antt).
+// Whether a record and lent stores hold a message, or a header alone: any numbers and any bytes are judged, in bounds and part
+// by part (specs/Holding.antt).
 
-use entries::entry_len;
-use entries::is_shaped;
 use entries::is_zero;
-use entries::name_at;
-use entries::name_len;
-use entries::param_count;
-use entries::tail_at;
-use entries::value_at;
 use format::CpimHeader;
 use format::CpimMessage;
+use judging::entries_hold;
+use judging::headers_hold;
+use kinds::Kind;
+pub use kinds::MAX_PARAMS_PER_HEADER;
 use utf8::is_utf8;
 ghost use mathlib.Core.Path.{_≡_};
-ghost use mathlib.Core.Bool.{true};
-ghost use mathlib.Core.List.{[]};
 ghost use Prim.Native.Nat.{_≤_};
-ghost use lib.ListN.{length, drop};
-ghost use Rattle.format.specs.Bytes.{all};
-ghost use Rattle.format.specs.Refusals.{passes};
-ghost use Rattle.entries.specs.Stored.{shaped, shapedAll, storedIn, entriesIn};
-ghost use Rattle.held.specs.Holding.{nameCheck, valueCheck, paramsFit, follows, fits, entryHolds, entriesHold, tailHolds, headersHold, typeHolds, numbersHold, messageHolds, sizesHold, headerHolds};
+ghost use lib.ListN.{length};
+ghost use Rattle.held.specs.Holding.{typeHolds, numbersHold, messageHolds, sizesHold, headerHolds};
 
 pub const MAX_HEADERS: usize = 50;
-
-pub const MAX_PARAMS_PER_HEADER: usize = 10;
 
 pub const MAX_CONTENT_HEADERS: usize = 20;
 
 pub const MAX_BODY_SIZE: usize = 10485760;
-
-// What an entry is.
-pub enum Kind {
-    Header,
-    Param,
-    Content,
-}
-
-fn name_passes(kind: Kind, name: &[u8]) -> bool
-    ensures { λ r. ⌜ r ≡ passes (nameCheck kind (now (name .entry))) ⌝ }
-{
-    match kind {
-        Kind::Header => validate::validate_header_name(name).number == 0,
-        Kind::Param => validate::validate_param_name(name).number == 0,
-        Kind::Content => validate::validate_header_name(name).number == 0,
-    }
-}
-
-fn value_passes(kind: Kind, value: &[u8]) -> bool
-    ensures { λ r. ⌜ r ≡ passes (valueCheck kind (now (value .entry))) ⌝ }
-{
-    match kind {
-        Kind::Header => validate::validate_cpim_header_value(value).number == 0,
-        Kind::Param => validate::validate_param_value(value).number == 0,
-        Kind::Content => validate::validate_content_header_value(value).number == 0,
-    }
-}
-
-// Parameters have none of their own, and neither have content headers.
-fn params_fit(kind: Kind, params: usize, tail: &[u8]) -> bool
-    ensures { λ r. ⌜ r ≡ paramsFit kind params (now (tail .entry)) ⌝ }
-{
-    match kind {
-        Kind::Header => params <= MAX_PARAMS_PER_HEADER,
-        Kind::Param => (params == 0) & (tail.len() == 0),
-        Kind::Content => (params == 0) & (tail.len() == 0),
-    }
-}
-
-// Whether a name may stand behind the last one.
-fn name_follows(kind: Kind, last: &[u8], name: &[u8]) -> bool
-    ensures { λ r. ⌜ r ≡ follows kind (now (last .entry)) (now (name .entry)) ⌝ }
-{
-    match kind {
-        Kind::Header => !compare::before(name, last),
-        Kind::Param => compare::before(last, name),
-        Kind::Content => compare::before(last, name),
-    }
-}
-
-// Whether the entry at a place is within limits and validators, its parameters not looked into.
-fn entry_fits(kind: Kind, s: &[u8], at: usize) -> bool
-    requires { ⌜ shaped (drop at (now s)) ≡ true ⌝ }
-    ensures { λ r. ⌜ r ≡ fits kind (storedIn (drop at (now (s .entry)))) ⌝ }
-{
-    let name = name_at(s, at);
-    let value = value_at(s, at);
-    if !name_passes(kind, name) {
-        return false;
-    }
-    if !value_passes(kind, value) {
-        return false;
-    }
-    if !params_fit(kind, param_count(s, at), tail_at(s, at)) {
-        return false;
-    }
-    if !is_utf8(name) {
-        return false;
-    }
-    is_utf8(value)
-}
-
-// Whether such an entry stands at a place, of a name that may stand behind the last one.
-fn entry_holds(kind: Kind, s: &[u8], at: usize, last: &[u8]) -> bool
-    requires { ⌜ at ≤ length (now s) ⌝ }
-    ensures { λ r. ⌜ r ≡ entryHolds kind (now (last .entry)) (drop at (now (s .entry))) ⌝ }
-{
-    if !is_shaped(s, at) {
-        return false;
-    }
-    if !entry_fits(kind, s, at) {
-        return false;
-    }
-    name_follows(kind, last, name_at(s, at))
-}
-
-// Whether s is so many entries; the last name stands at from..to.
-fn entries_hold(kind: Kind, s: &[u8], count: usize) -> bool
-    ensures { λ r. ⌜ r ≡ entriesHold kind count [] (now (s .entry)) ⌝ }
-{
-    let mut at = 0;
-    let mut from = 0;
-    let mut to = 0;
-    let mut i = 0;
-    while i < count {
-        if !entry_holds(kind, s, at, &s[from..to]) {
-            return false;
-        }
-        from = at + 16;
-        to = from + name_len(s, at);
-        at += entry_len(s, at);
-        i += 1;
-    }
-    at == s.len()
-}
-
-// Whether the bytes behind each header's value are its parameters.
-fn tails_hold(s: &[u8], count: usize) -> bool
-    requires { ⌜ shapedAll count (now s) ≡ true ⌝ }
-    ensures { λ r. ⌜ r ≡ all tailHolds (entriesIn count (now (s .entry))) ⌝ }
-{
-    let mut at = 0;
-    let mut i = 0;
-    while i < count {
-        if !entries_hold(Kind::Param, tail_at(s, at), param_count(s, at)) {
-            return false;
-        }
-        at += entry_len(s, at);
-        i += 1;
-    }
-    true
-}
-
-fn headers_hold(s: &[u8], count: usize) -> bool
-    ensures { λ r. ⌜ r ≡ headersHold count (now (s .entry)) ⌝ }
-{
-    if !entries_hold(Kind::Header, s, count) {
-        return false;
-    }
-    tails_hold(s, count)
-}
 
 // Whether s is a type of n bytes, and zeros.
 fn type_holds(n: usize, s: &[u8]) -> bool
@@ -247,7 +106,7 @@ pub fn header_holds(h: CpimHeader, store: &[u8]) -> bool
     let from = 16 + h.valuelen;
     let to = h.size;
     let value = &store[16..from];
-    if !value_passes(Kind::Header, value) {
+    if !kinds::value_passes(Kind::Header, value) {
         return false;
     }
     if !is_utf8(value) {

@@ -9,7 +9,7 @@ use lib.Seq.{drop-drop}
 use Rattle.format.specs.Bytes.{Bytes, total}
 use Rattle.entries.specs.Stored.{Stored, paramCount, sizeIn, storedIn, shaped, shapedAll, entriesIn}
 use Rattle.entries.proofs.Shapes.{within-size, within-numbers}
-use Rattle.entries.proofs.Walks.{next-shaped, next-entry}
+use Rattle.entries.proofs.Sequences.{next-shaped, next-entry}
 
 abbrev all-params : List Stored → ℕ
 all-params es = total (λ e. e .params) es

@@ -11,7 +11,9 @@ use Rattle.format.specs.Bytes.{Bytes, total}
 use Rattle.format.specs.LookingUp.{nth}
 use Rattle.format.proofs.Lists.{and-left, and-right}
 use Rattle.entries.specs.Stored.{Stored, storedSize, sizeIn, storedIn, shaped, shapedAll, entriesIn}
-use Rattle.entries.proofs.Shapes.{shape, stored-size, entries-length}
+use Rattle.entries.proofs.Shapes.{shape}
+use Rattle.entries.proofs.Reading.{stored-size}
+use Rattle.entries.proofs.Sequences.{entries-length}
 
 -- there are too few
 pub nth-none : {A : Type 0} (n : ℕ) (xs : List A) → length xs ≤ n → nth n xs ≡ none

@@ -3,9 +3,9 @@
 use entries::entry_len;
 use entries::name_at;
 use entries::param_count;
-use entries::pass_first;
 use entries::tail_at;
 use entries::value_at;
+use groups::pass_first;
 use parts::absent;
 ghost use mathlib.Core.Path.{_≡_};
 ghost use mathlib.Core.Bool.{true};

@@ -7,7 +7,7 @@ use borrow.Author.Needs.{needs}
 use mathlib.Core.Bool.{_&&_}
 use lib.Dec.{eqb}
 use Rattle.format.specs.Bytes.{all}
-use Rattle.entries.proofs.Shapes.{all-step, all-end}
+use Rattle.entries.proofs.Zeros.{all-step, all-end}
 use Rattle.entries.proofs.is_zero.Statement.{statement}
 use Rattle.entries.proofs.is_zero.Tie as tie
 

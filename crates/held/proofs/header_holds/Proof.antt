@@ -8,10 +8,12 @@ use borrow.Author.Tests.{not-false}
 use Rattle.format.specs.Bytes.{Bytes}
 use Rattle.format.specs.Characters.{isUtf8}
 use Rattle.format.specs.Refusals.{passes}
-use Rattle.held.specs.Holding.{valueCheck, headerHolds}
-use Rattle.held.specs.declared.Kind.the-variants.{Header}
+use Rattle.kinds.specs.Kinds.{valueCheck}
+use Rattle.held.specs.Holding.{headerHolds}
+use Rattle.kinds.specs.declared.Kind.the-variants.{Header}
 use Rattle.held.proofs.Alone.{Sized, sizes-parts}
-use Rattle.held.proofs.Tests.{fails, goes-on, part-of}
+use Rattle.kinds.proofs.Tests.{fails, goes-on}
+use Rattle.held.proofs.Parts.{part-of}
 use Rattle.held.proofs.header_holds.Statement.{statement}
 use Rattle.held.proofs.header_holds.Tie as tie
 

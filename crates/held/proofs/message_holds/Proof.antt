@@ -6,10 +6,12 @@ use native.Mathlib.Omega.{arith}
 use lib.ListN.{length, length-take}
 use borrow.Author.Needs.{needs}
 use borrow.Author.Tests.{not-false}
-use Rattle.held.specs.Holding.{entriesHold, headersHold, messageHolds}
-use Rattle.held.specs.declared.Kind.the-variants.{Content}
+use Rattle.judging.specs.Judging.{entriesHold, headersHold}
+use Rattle.held.specs.Holding.{messageHolds}
+use Rattle.kinds.specs.declared.Kind.the-variants.{Content}
 use Rattle.held.proofs.Messages.{Numbered, numbers-parts}
-use Rattle.held.proofs.Tests.{fails, goes-on, part-of}
+use Rattle.kinds.proofs.Tests.{fails, goes-on}
+use Rattle.held.proofs.Parts.{part-of}
 use Rattle.held.proofs.message_holds.Statement.{statement}
 use Rattle.held.proofs.message_holds.Tie as tie
 

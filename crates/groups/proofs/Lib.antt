@@ -1,0 +1,4 @@
+pub mod Passing
+pub mod Walks
+pub mod Groups
+pub mod Placing

@@ -1,0 +1,52 @@
+-- `judging::entry_holds` meets its contract. Each answer goes by the tests that led to it. Assumes nothing.
+use mathlib.Core.Path.{sym, ap, _∙_}
+use borrow.Author.Needs.{needs}
+use borrow.Author.Tests.{not-false}
+use Rattle.kinds.specs.Kinds.{follows}
+use Rattle.judging.specs.Judging.{entryHolds}
+use Rattle.kinds.proofs.Tests.{fails, goes-on}
+use Rattle.judging.proofs.entry_holds.Statement.{statement}
+use Rattle.judging.proofs.entry_holds.Tie as tie
+
+is-shaped-requires : tie.Need-is-shaped-requires
+is-shaped-requires c κs = search needs
+
+returns : tie.Need-returns
+unfolding entryHolds
+returns c = fails _ _ (c .before .is-shaped .ensures) (c .if1 .taken)
+
+entry-fits-requires : tie.Need-entry-fits-requires
+entry-fits-requires c κs = sym (c .before .is-shaped .ensures) ∙ not-false _ (c .if1 .left)
+
+returns-2 : tie.Need-returns-2
+unfolding entryHolds
+returns-2 c =
+    fails _ _ (c .before .entry-fits .ensures) (c .if2 .taken)
+    ∙ goes-on _ _ (c .before .before .before .is-shaped .ensures) (c .before .before .if1 .left)
+
+name-at-requires : tie.Need-name-at-requires
+name-at-requires c κs = sym (c .before .before .before .is-shaped .ensures) ∙ not-false _ (c .before .before .if1 .left)
+
+name-follows-requires : tie.Need-name-follows-requires
+name-follows-requires c κs = search needs
+
+returns-3 : tie.Need-returns-3
+unfolding entryHolds
+returns-3 c =
+    let args = c .before .before .before .before .before .before .before .before .args in
+    c .name-follows .ensures
+    ∙ ap (follows (args .kind) (args .last .now)) (c .before .name-at .ensures)
+    ∙ goes-on _ _ (c .before .before .before .entry-fits .ensures) (c .before .before .if2 .left)
+    ∙ goes-on _ _ (c .before .before .before .before .before .is-shaped .ensures) (c .before .before .before .before .if1 .left)
+
+pub entry-holds-spec : {M : Type 1} → statement M
+entry-holds-spec =
+    tie.close
+    (tie.spec
+    is-shaped-requires
+    returns
+    entry-fits-requires
+    returns-2
+    name-at-requires
+    name-follows-requires
+    returns-3)

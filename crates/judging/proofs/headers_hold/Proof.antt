@@ -1,0 +1,31 @@
+-- `judging::headers_hold` meets its contract. Each answer goes by the tests that led to it. Assumes nothing.
+use mathlib.Core.Path.{sym, _∙_}
+use mathlib.Core.List.{[]}
+use borrow.Author.Needs.{needs}
+use borrow.Author.Tests.{not-false}
+use Rattle.judging.specs.Judging.{headersHold}
+use Rattle.kinds.specs.declared.Kind.the-variants.{Header}
+use Rattle.judging.proofs.Entries.{holds-shaped}
+use Rattle.kinds.proofs.Tests.{fails, goes-on}
+use Rattle.judging.proofs.headers_hold.Statement.{statement}
+use Rattle.judging.proofs.headers_hold.Tie as tie
+
+entries-hold-requires : tie.Need-entries-hold-requires
+entries-hold-requires c κs = search needs
+
+returns : tie.Need-returns
+unfolding headersHold
+returns c = fails _ _ (c .before .entries-hold .ensures) (c .if1 .taken)
+
+tails-hold-requires : tie.Need-tails-hold-requires
+tails-hold-requires c κs =
+    let args = c .before .before .before .args in
+    holds-shaped Header (args .count) [] (args .s .now) (sym (c .before .entries-hold .ensures) ∙ not-false _ (c .if1 .left))
+
+returns-2 : tie.Need-returns-2
+unfolding headersHold
+returns-2 c = c .tails-hold .ensures ∙ goes-on _ _ (c .before .before .entries-hold .ensures) (c .before .if1 .left)
+
+pub headers-hold-spec : {M : Type 1} → statement M
+headers-hold-spec =
+    tie.close (tie.spec entries-hold-requires returns tails-hold-requires returns-2)

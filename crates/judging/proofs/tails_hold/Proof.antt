@@ -1,0 +1,98 @@
+-- `judging::tails_hold` meets its contract. The invariant is `Looked`: the parameters of the entries left decide. Assumes nothing.
+use mathlib.Core.Path.{_∙_}
+use Prim.Native.Nat.{_-_}
+use native.Mathlib.Omega.{arith}
+use lib.ListN.{drop}
+use borrow.Author.Needs.{needs}
+use borrow.Author.Tests.{not-true, not-false}
+use Rattle.judging.proofs.Tests.{tail-read}
+use Rattle.judging.proofs.Walks.{Looked, looked-start, looked-end, looked-shaped, looked-numbers, looked-size, looked-stop, looked-on}
+use Rattle.judging.proofs.tails_hold.Statement.{statement}
+use Rattle.judging.proofs.tails_hold.Tie as tie
+
+abbrev Inv-loop : tie.InvT-loop
+Inv-loop s count at₀ i₀ at i = Looked s count at i
+
+abbrev μ-loop : tie.MeasureT-loop
+μ-loop s count at₀ i₀ at i = count - i
+
+loop-holds : tie.Need-loop-holds Inv-loop μ-loop
+loop-holds c =
+    let start = c .before in
+    looked-start (start .args .s .now) (start .args .count) (start .pre)
+
+tail-at-requires : tie.Need-tail-at-requires Inv-loop μ-loop
+tail-at-requires c κs =
+    let at-loop = c .before in
+    let args = at-loop .before .before .args in
+    let l = at-loop .loop in
+    looked-shaped (args .s .now) (args .count) (l .at) (l .i) (l .inv) (omega arith)
+
+param-count-requires : tie.Need-param-count-requires Inv-loop μ-loop
+param-count-requires c κs =
+    let at-loop = c .before .before in
+    let args = at-loop .before .before .args in
+    let l = at-loop .loop in
+    looked-numbers (args .s .now) (args .count) (l .at) (l .i) (l .inv) (omega arith)
+
+entries-hold-requires : tie.Need-entries-hold-requires Inv-loop μ-loop
+entries-hold-requires c κs = search needs
+
+returns : tie.Need-returns Inv-loop μ-loop
+returns c =
+    let at-loop = c .before .before .before .before .before in
+    let args = at-loop .before .before .args in
+    let l = at-loop .loop in
+    looked-stop (args .s .now) (args .count) (l .at) (l .i) (l .inv) (omega arith) (tail-read (drop (l .at) (args .s .now)) _ _ _ (c .before .before .before .tail-at .ensures) (c .before .before .param-count .ensures .0) (c .before .entries-hold .ensures) ∙ not-true _ (c .if1 .taken))
+
+entry-len-requires : tie.Need-entry-len-requires Inv-loop μ-loop
+entry-len-requires c κs =
+    let at-loop = c .before .before .before .before .before in
+    let args = at-loop .before .before .args in
+    let l = at-loop .loop in
+    looked-numbers (args .s .now) (args .count) (l .at) (l .i) (l .inv) (omega arith)
+
+add-at : tie.Need-add-at Inv-loop μ-loop
+add-at c =
+    let at-loop = c .before .before .before .before .before .before in
+    let args = at-loop .before .before .args in
+    let l = at-loop .loop in
+    omega (arith, looked-size (args .s .now) (args .count) (l .at) (l .i) (l .inv) (omega arith), c .entry-len .ensures .0)
+
+add-i : tie.Need-add-i Inv-loop μ-loop
+add-i c = omega arith
+
+loop-less : tie.Need-loop-less Inv-loop μ-loop
+loop-less c = omega arith
+
+loop-again : tie.Need-loop-again Inv-loop μ-loop
+loop-again c =
+    let at-loop = c .before .before .before .before .before .before in
+    let args = at-loop .before .before .args in
+    let l = at-loop .loop in
+    rw (c .entry-len .ensures .0) (looked-on (args .s .now) (args .count) (l .at) (l .i) (l .inv) (omega arith) (tail-read (drop (l .at) (args .s .now)) _ _ _ (c .before .before .before .before .tail-at .ensures) (c .before .before .before .param-count .ensures .0) (c .before .before .entries-hold .ensures) ∙ not-false _ (c .before .if1 .left)))
+
+returns-2 : tie.Need-returns-2 Inv-loop μ-loop
+returns-2 c =
+    let at-loop = c .before in
+    let args = at-loop .before .before .args in
+    let l = at-loop .loop in
+    looked-end (args .s .now) (args .count) (l .at) (l .i) (l .inv) (omega arith)
+
+pub tails-hold-spec : {M : Type 1} → statement M
+tails-hold-spec =
+    tie.close
+    (tie.spec
+    Inv-loop
+    μ-loop
+    loop-holds
+    tail-at-requires
+    param-count-requires
+    entries-hold-requires
+    returns
+    entry-len-requires
+    add-at
+    add-i
+    loop-less
+    loop-again
+    returns-2)

@@ -1,0 +1,102 @@
+// Whether bytes are entries of a kind, or headers with their parameters: any bytes are judged, in bounds and entry by entry
+// (specs/Judging.antt).
+
+use entries::entry_len;
+use entries::is_shaped;
+use entries::name_at;
+use entries::name_len;
+use entries::param_count;
+use entries::tail_at;
+use entries::value_at;
+use kinds::Kind;
+use utf8::is_utf8;
+ghost use mathlib.Core.Path.{_≡_};
+ghost use mathlib.Core.Bool.{true};
+ghost use mathlib.Core.List.{[]};
+ghost use Prim.Native.Nat.{_≤_};
+ghost use lib.ListN.{length, drop};
+ghost use Rattle.format.specs.Bytes.{all};
+ghost use Rattle.entries.specs.Stored.{shaped, shapedAll, storedIn, entriesIn};
+ghost use Rattle.judging.specs.Judging.{fits, entryHolds, entriesHold, tailHolds, headersHold};
+
+// Whether the entry at a place is within limits and validators, its parameters not looked into.
+fn entry_fits(kind: Kind, s: &[u8], at: usize) -> bool
+    requires { ⌜ shaped (drop at (now s)) ≡ true ⌝ }
+    ensures { λ r. ⌜ r ≡ fits kind (storedIn (drop at (now (s .entry)))) ⌝ }
+{
+    let name = name_at(s, at);
+    let value = value_at(s, at);
+    if !kinds::name_passes(kind, name) {
+        return false;
+    }
+    if !kinds::value_passes(kind, value) {
+        return false;
+    }
+    if !kinds::params_fit(kind, param_count(s, at), tail_at(s, at)) {
+        return false;
+    }
+    if !is_utf8(name) {
+        return false;
+    }
+    is_utf8(value)
+}
+
+// Whether such an entry stands at a place, of a name that may stand behind the last one.
+fn entry_holds(kind: Kind, s: &[u8], at: usize, last: &[u8]) -> bool
+    requires { ⌜ at ≤ length (now s) ⌝ }
+    ensures { λ r. ⌜ r ≡ entryHolds kind (now (last .entry)) (drop at (now (s .entry))) ⌝ }
+{
+    if !is_shaped(s, at) {
+        return false;
+    }
+    if !entry_fits(kind, s, at) {
+        return false;
+    }
+    kinds::name_follows(kind, last, name_at(s, at))
+}
+
+// Whether s is so many entries; the last name stands at from..to.
+pub fn entries_hold(kind: Kind, s: &[u8], count: usize) -> bool
+    ensures { λ r. ⌜ r ≡ entriesHold kind count [] (now (s .entry)) ⌝ }
+{
+    let mut at = 0;
+    let mut from = 0;
+    let mut to = 0;
+    let mut i = 0;
+    while i < count {
+        if !entry_holds(kind, s, at, &s[from..to]) {
+            return false;
+        }
+        from = at + 16;
+        to = from + name_len(s, at);
+        at += entry_len(s, at);
+        i += 1;
+    }
+    at == s.len()
+}
+
+// Whether the bytes behind each header's value are its parameters.
+fn tails_hold(s: &[u8], count: usize) -> bool
+    requires { ⌜ shapedAll count (now s) ≡ true ⌝ }
+    ensures { λ r. ⌜ r ≡ all tailHolds (entriesIn count (now (s .entry))) ⌝ }
+{
+    let mut at = 0;
+    let mut i = 0;
+    while i < count {
+        if !entries_hold(Kind::Param, tail_at(s, at), param_count(s, at)) {
+            return false;
+        }
+        at += entry_len(s, at);
+        i += 1;
+    }
+    true
+}
+
+pub fn headers_hold(s: &[u8], count: usize) -> bool
+    ensures { λ r. ⌜ r ≡ headersHold count (now (s .entry)) ⌝ }
+{
+    if !entries_hold(Kind::Header, s, count) {
+        return false;
+    }
+    tails_hold(s, count)
+}
