@@ -1,3 +1,2 @@
-pub mod Units
-pub mod Forms
 pub mod BareBytes
+pub mod Turns

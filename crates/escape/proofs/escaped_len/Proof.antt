@@ -7,7 +7,7 @@ use borrow.Author.Needs.{needs}
 use Rattle.format.specs.Escaping.{escape}
 use Rattle.format.proofs.Escaping.Escape.{escape-length}
 use Rattle.escape.proofs.BareBytes.{bare-escape}
-use Rattle.escape.proofs.Forms.{takes-some, turn-within, turn-length, escape-end}
+use Rattle.escape.proofs.Turns.{takes-some, turn-within, turn-length, escape-end}
 use Rattle.escape.proofs.escaped_len.Statement.{statement}
 use Rattle.escape.proofs.escaped_len.Tie as tie
 

@@ -1,13 +1,13 @@
--- `escape::put_unicode` meets its contract. Six stores, one behind another; the two upper digits of a byte are zero. Assumes nothing.
+-- `putting::put_unicode` meets its contract. Six stores, one behind another; the two upper digits of a byte are zero. Assumes nothing.
 use mathlib.Core.Path.{sym, ap, _∙_}
 use native.Mathlib.Omega.{arith}
 use lib.ListN.{length-set}
 use borrow.Author.Needs.{needs}
 use Rattle.format.specs.Bytes.{pasted}
 use Rattle.octets.proofs.Paste.{stores-six}
-use Rattle.escape.proofs.Forms.{unicode-small}
-use Rattle.escape.proofs.put_unicode.Statement.{statement}
-use Rattle.escape.proofs.put_unicode.Tie as tie
+use Rattle.putting.proofs.Digits.{unicode-small}
+use Rattle.putting.proofs.put_unicode.Statement.{statement}
+use Rattle.putting.proofs.put_unicode.Tie as tie
 
 digit-requires : tie.Need-digit-requires
 digit-requires c κs = search needs

@@ -1,10 +1,10 @@
--- `escape::digit` meets its contract. The digit by its size. Assumes nothing.
+-- `putting::digit` meets its contract. The digit by its size. Assumes nothing.
 use mathlib.Core.Path.{refl}
 use borrow.Author.Needs.{needs}
 use borrow.Author.Tests.{lt-ltb, le-ltb}
 use Rattle.format.specs.Escaping.{digit}
-use Rattle.escape.proofs.digit.Statement.{statement}
-use Rattle.escape.proofs.digit.Tie as tie
+use Rattle.putting.proofs.digit.Statement.{statement}
+use Rattle.putting.proofs.digit.Tie as tie
 
 add-result : tie.Need-add-result
 add-result c = search needs

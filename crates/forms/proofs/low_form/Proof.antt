@@ -1,12 +1,12 @@
--- `escape::low_form` meets its contract. Each byte by its arm. Assumes nothing.
+-- `forms::low_form` meets its contract. Each byte by its arm. Assumes nothing.
 use mathlib.Core.Path.{refl, sym}
 use native.Mathlib.Omega.{arith}
 use Rattle.format.specs.Characters.{isAsciiControl}
 use Rattle.format.specs.Escaping.{shortForm}
-use Rattle.escape.specs.Forms.{byteForm}
-use Rattle.escape.proofs.Forms.{byte-low}
-use Rattle.escape.proofs.low_form.Statement.{statement}
-use Rattle.escape.proofs.low_form.Tie as tie
+use Rattle.forms.specs.Forms.{byteForm}
+use Rattle.forms.proofs.Forms.{byte-low}
+use Rattle.forms.proofs.low_form.Statement.{statement}
+use Rattle.forms.proofs.low_form.Tie as tie
 
 returns : tie.Need-returns
 unfolding byteForm shortForm isAsciiControl

@@ -1,12 +1,12 @@
--- `escape::form_at` meets its contract. The form of the bytes from i on, by one byte or by two. Assumes nothing.
+-- `forms::form_at` meets its contract. The form of the bytes from i on, by one byte or by two. Assumes nothing.
 use mathlib.Core.Path.{sym, _∙_}
 use native.Mathlib.Omega.{arith}
 use borrow.Author.Needs.{needs}
 use Rattle.format.proofs.Characters.Table.{within-below, within-above}
 use Rattle.format.specs.Characters.{_to_}
-use Rattle.escape.proofs.Forms.{form-other, form-end, form-beside, form-upper}
-use Rattle.escape.proofs.form_at.Statement.{statement}
-use Rattle.escape.proofs.form_at.Tie as tie
+use Rattle.forms.proofs.Forms.{form-other, form-end, form-beside, form-upper}
+use Rattle.forms.proofs.form_at.Statement.{statement}
+use Rattle.forms.proofs.form_at.Tie as tie
 
 shared-slice-read-b : tie.Need-shared-slice-read-b
 shared-slice-read-b c = search needs

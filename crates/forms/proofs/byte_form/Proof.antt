@@ -1,13 +1,13 @@
--- `escape::byte_form` meets its contract. A byte that is none of those tested is written as it is. Assumes nothing.
+-- `forms::byte_form` meets its contract. A byte that is none of those tested is written as it is. Assumes nothing.
 use mathlib.Core.Path.{refl, sym}
 use native.Mathlib.Omega.{arith}
 use borrow.Author.Needs.{needs}
 use Rattle.format.specs.Characters.{isAsciiControl}
 use Rattle.format.specs.Escaping.{shortForm}
-use Rattle.escape.specs.Forms.{byteForm}
-use Rattle.escape.proofs.Forms.{byte-plain}
-use Rattle.escape.proofs.byte_form.Statement.{statement}
-use Rattle.escape.proofs.byte_form.Tie as tie
+use Rattle.forms.specs.Forms.{byteForm}
+use Rattle.forms.proofs.Forms.{byte-plain}
+use Rattle.forms.proofs.byte_form.Statement.{statement}
+use Rattle.forms.proofs.byte_form.Tie as tie
 
 returns : tie.Need-returns
 unfolding byteForm shortForm isAsciiControl

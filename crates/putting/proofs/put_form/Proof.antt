@@ -1,12 +1,12 @@
--- `escape::put_form` meets its contract. The stores of each form. Assumes nothing.
+-- `putting::put_form` meets its contract. The stores of each form. Assumes nothing.
 use mathlib.Core.Path.{refl, ap, _∙_}
 use native.Mathlib.Omega.{arith}
 use lib.ListN.{length-set}
 use borrow.Author.Needs.{needs}
 use Rattle.octets.proofs.Paste.{pasted-one, stores-two}
-use Rattle.escape.specs.Forms.{widthForm}
-use Rattle.escape.proofs.put_form.Statement.{statement}
-use Rattle.escape.proofs.put_form.Tie as tie
+use Rattle.forms.specs.Forms.{widthForm}
+use Rattle.putting.proofs.put_form.Statement.{statement}
+use Rattle.putting.proofs.put_form.Tie as tie
 
 enum-known-f : tie.Need-enum-known-f
 enum-known-f c = search needs

@@ -18,8 +18,8 @@ use Rattle.format.proofs.Lists.{bcase, clash, and-left, and-right, and-intro}
 use Rattle.format.proofs.Characters.Table.{within-low, within-high, within-intro, within-below, picks, whole-row}
 use Rattle.format.proofs.Characters.Chars.{chars-nil, chars-cons, chars-whole, chars-ascii, ascii-whole}
 use Rattle.format.proofs.Characters.Shapes.{Shape, one, two, three, four, shape, value-two}
-use Rattle.escape.specs.Forms.{shortByte, byteForm, formOf, takesForm, writtenForm}
-use Rattle.escape.specs.declared.Form.the-variants.{Raw, Long}
+use Rattle.forms.specs.Forms.{shortByte, byteForm, formOf, takesForm, writtenForm}
+use Rattle.forms.specs.declared.Form.the-variants.{Raw, Long}
 
 -- a trailing byte
 abbrev isTrail : ℕ → Bool

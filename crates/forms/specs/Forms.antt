@@ -8,8 +8,8 @@ use lib.Dec.{eqb}
 use Rattle.format.specs.Bytes.{Bytes, if_then_else_, backslash}
 use Rattle.format.specs.Characters.{_to_, within, isAsciiControl}
 use Rattle.format.specs.Escaping.{shortForm, unicodeEscape}
-use Rattle.escape.specs.declared.Form.{Form}
-use Rattle.escape.specs.declared.Form.the-variants.{Raw, Short, Long, Upper}
+use Rattle.forms.specs.declared.Form.{Form}
+use Rattle.forms.specs.declared.Form.the-variants.{Raw, Short, Long, Upper}
 
 -- a byte with no short form: an ASCII control as `\u`, any other as it is
 abbrev pub longByte : ℕ → Form
