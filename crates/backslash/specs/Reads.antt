@@ -1,22 +1,12 @@
--- What the functions answer for the options of document 01's definitions: a number that stands for none, and a `Read` for an escape.
--- Assumes nothing.
+-- What the functions answer for the options of document 01's definitions: a `Read` for an escape. Assumes nothing.
 use Prim.Native.Nat.{ℕ}
 use mathlib.Core.Option.{Option, none, some}
 use lib.Dec.{eqb}
-use Rattle.format.specs.Bytes.{if_then_else_, plus}
+use Rattle.format.specs.Bytes.{if_then_else_}
 use Rattle.format.specs.Characters.{encoding}
-use Rattle.format.specs.Escaping.{digitValue, Escape, scalarEscape}
+use Rattle.format.specs.Escaping.{Escape, scalarEscape}
 use Rattle.backslash.specs.declared.Read.{Read}
 use Rattle.backslash.specs.declared.Read.the-variants.{Code, Nothing}
-
--- the number, or one that stands for none
-abbrev pub orElse : ℕ → Option ℕ → ℕ
-orElse n none = n
-orElse n (some m) = m
-
--- the first of the four digits behind `\u`, or a plus
-abbrev pub firstValue : ℕ → Option ℕ
-firstValue c = if eqb c plus then some 0 else digitValue c
 
 -- the escape of the number behind `\u`, 65536 standing for none
 abbrev pub scalarOf : ℕ → Option Escape

@@ -3,9 +3,9 @@
 // for.
 
 use backslash::Read;
-use backslash::code_len;
 use backslash::escape_at;
-use backslash::put_code;
+use coding::code_len;
+use coding::put_code;
 use finding::find_byte;
 use octets::copy_at;
 ghost use mathlib.Core.Path.{_≡_};

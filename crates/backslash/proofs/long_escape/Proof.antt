@@ -5,7 +5,8 @@ use native.Mathlib.Omega.{arith}
 use lib.ListN.{drop, getD, length-drop}
 use borrow.Author.Needs.{needs}
 use Rattle.backslash.specs.Reads.{scalarOf}
-use Rattle.backslash.proofs.Digits.{four-most, scalar-four}
+use Rattle.digits.proofs.Digits.{four-most}
+use Rattle.backslash.proofs.Scalars.{scalar-four}
 use Rattle.backslash.proofs.Escapes.{long-few, long-four}
 use Rattle.backslash.proofs.long_escape.Statement.{statement}
 use Rattle.backslash.proofs.long_escape.Tie as tie

@@ -3,7 +3,7 @@ use mathlib.Core.Path.{sym, ap, _∙_}
 use Prim.Native.Nat.{_<_}
 use native.Mathlib.Omega.{arith}
 use Rattle.backslash.specs.Reads.{scalarOf}
-use Rattle.backslash.proofs.Digits.{scalar-below, scalar-above, scalar-surrogate, scalar-none, below-most}
+use Rattle.backslash.proofs.Scalars.{scalar-below, scalar-above, scalar-surrogate, scalar-none, below-most}
 use Rattle.backslash.proofs.scalar.Statement.{statement}
 use Rattle.backslash.proofs.scalar.Tie as tie
 

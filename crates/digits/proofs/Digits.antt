@@ -1,20 +1,16 @@
--- The number behind `\u`: the laws of its digits, with 16 and 65536 for what is no digit and no number.
+-- The number behind `\u`: the laws of its digits, with 16 and 65536 for what is no digit and no number. Assumes nothing.
 use Prim.Native.Nat.{ℕ, _+_, _-_, _*_, _≤_, _<_}
 use mathlib.Core.Path.{_≡_, refl, sym, _∙_}
 use mathlib.Core.Bool.{false}
-use mathlib.Core.Logic.{⊎-elim}
 use mathlib.Core.Option.{Option, none, some}
 use native.Mathlib.Omega.{arith}
-use lib.Dec.{ltb, eqb}
-use borrow.Author.Tests.{ltb-true, ltb-false, ne-eqb}
+use lib.Dec.{eqb}
 use Rattle.format.specs.Bytes.{plus}
-use Rattle.format.specs.Characters.{_to_, within, isScalar, encoding}
-use Rattle.format.specs.Escaping.{digitValue, shifted, fourDigits, scalarEscape}
-use Rattle.format.proofs.Lists.{bcase}
+use Rattle.format.specs.Characters.{_to_, within}
+use Rattle.format.specs.Escaping.{digitValue, shifted, fourDigits}
 use Rattle.format.proofs.Characters.Table.{within-high, within-intro, within-below, within-above}
-use Rattle.format.proofs.Characters.Shapes.{scalar-low, scalar-high}
 use Rattle.format.proofs.Escaping.Unescape.{branch, nothing}
-use Rattle.backslash.specs.Reads.{orElse, firstValue, scalarOf}
+use Rattle.digits.specs.Values.{orElse, firstValue}
 
 pub digit-decimal : (c : ℕ) → 48 ≤ c → c ≤ 57 → digitValue c ≡ some (c - 48)
 unfolding digitValue
@@ -33,7 +29,7 @@ unfolding digitValue
 digit-none c p q r = rw (p, q, r) refl
 
 -- a number, where there is one, is below k
-abbrev Below : ℕ → Option ℕ → Type 0
+abbrev pub Below : ℕ → Option ℕ → Type 0
 Below k o = (n : ℕ) → o ≡ some n → n < k
 
 digit-small : (c : ℕ) → Below 16 (digitValue c)
@@ -52,7 +48,7 @@ shifted-small k none d f g n h = nothing n h
 shifted-small k (some m) none f g n h = nothing n h
 shifted-small k (some m) (some e) f g n h = let z : m * 16 + e ≡ n = cc in omega (arith, f m refl, g e refl)
 
-four-small : (a b c d : ℕ) → Below 65536 (fourDigits a b c d)
+pub four-small : (a b c d : ℕ) → Below 65536 (fourDigits a b c d)
 unfolding fourDigits
 four-small a b c d =
     shifted-small 4096 (shifted (shifted (firstValue a) (digitValue b)) (digitValue c)) (digitValue d)
@@ -111,33 +107,3 @@ module _ (a b c d w x y z : ℕ) (ew : w ≡ orElse 16 (firstValue a)) (ex : x �
   unfolding fourDigits
   four-all p q r s =
       rw (some-of 16 w (firstValue a) ew p, some-of 16 x (digitValue b) ex q, some-of 16 y (digitValue c) ey r, some-of 16 z (digitValue d) ez s) refl
-
--- the number behind `\u` as an escape
-pub scalar-four : (a b c d : ℕ) → scalarOf (orElse 65536 (fourDigits a b c d)) ≡ scalarEscape (fourDigits a b c d)
-unfolding scalarEscape
-scalar-four a b c d = go (fourDigits a b c d) (four-small a b c d)
-  where
-    go : (o : Option ℕ) → Below 65536 o → scalarOf (orElse 65536 o) ≡ scalarEscape o
-    go none f = refl
-    go (some n) f = rw (ne-eqb n 65536 (λ e. omega (arith, f n refl))) refl
-
--- the scalar values of at most four digits, and the surrogates between them
-pub scalar-below : (n : ℕ) → n < 0xD800 → scalarOf n ≡ some (record { stands = encoding n; takes = 5 })
-unfolding scalarEscape
-scalar-below n h = rw (ne-eqb n 65536 (λ e. omega arith), scalar-low n (omega arith)) refl
-
-pub scalar-above : (n : ℕ) → 0xE000 ≤ n → n < 65536 → scalarOf n ≡ some (record { stands = encoding n; takes = 5 })
-unfolding scalarEscape
-scalar-above n h k = rw (ne-eqb n 65536 (λ e. omega arith), scalar-high n h (omega arith)) refl
-
-pub scalar-surrogate : (n : ℕ) → 0xD800 ≤ n → n < 0xE000 → scalarOf n ≡ none
-unfolding scalarEscape isScalar
-scalar-surrogate n h k =
-    rw (ne-eqb n 65536 (λ e. omega arith), within-above n (0 to 0xD7FF) (omega arith), within-below n (0xE000 to 0x10FFFF) k) refl
-
-pub scalar-none : scalarOf 65536 ≡ none
-scalar-none = refl
-
--- a number of at most four digits
-pub below-most : (n : ℕ) → n ≤ 65536 → (n ≡ 65536 → ⊥) → n < 65536
-below-most n h f = ⊎-elim (λ t. ltb-true n 65536 t) (λ t. absurd (f (omega (arith, ltb-false n 65536 t)))) (bcase (ltb n 65536))

@@ -1,9 +1,9 @@
--- `backslash::first_value` meets its contract. A plus, or a digit. Assumes nothing.
+-- `digits::first_value` meets its contract. A plus, or a digit. Assumes nothing.
 use mathlib.Core.Path.{refl}
 use borrow.Author.Needs.{needs}
 use borrow.Author.Tests.{eq-eqb, ne-eqb}
-use Rattle.backslash.proofs.first_value.Statement.{statement}
-use Rattle.backslash.proofs.first_value.Tie as tie
+use Rattle.digits.proofs.first_value.Statement.{statement}
+use Rattle.digits.proofs.first_value.Tie as tie
 
 returns : tie.Need-returns
 returns c = rw (eq-eqb _ 43 (c .if1 .taken)) refl

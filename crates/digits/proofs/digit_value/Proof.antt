@@ -1,13 +1,13 @@
--- `backslash::digit_value` meets its contract. Each byte by the range that it is in. Assumes nothing.
+-- `digits::digit_value` meets its contract. Each byte by the range that it is in. Assumes nothing.
 use mathlib.Core.Path.{sym, ap}
 use native.Mathlib.Omega.{arith}
 use borrow.Author.Needs.{needs}
 use Rattle.format.specs.Characters.{_to_}
 use Rattle.format.proofs.Characters.Table.{within-below, within-above}
-use Rattle.backslash.specs.Reads.{orElse}
-use Rattle.backslash.proofs.Digits.{digit-decimal, digit-lower, digit-upper, digit-none}
-use Rattle.backslash.proofs.digit_value.Statement.{statement}
-use Rattle.backslash.proofs.digit_value.Tie as tie
+use Rattle.digits.specs.Values.{orElse}
+use Rattle.digits.proofs.Digits.{digit-decimal, digit-lower, digit-upper, digit-none}
+use Rattle.digits.proofs.digit_value.Statement.{statement}
+use Rattle.digits.proofs.digit_value.Tie as tie
 
 cast-result : tie.Need-cast-result
 cast-result c = search needs

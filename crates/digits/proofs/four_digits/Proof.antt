@@ -1,10 +1,10 @@
--- `backslash::four_digits` meets its contract. A digit that is missing leaves no number. Assumes nothing.
+-- `digits::four_digits` meets its contract. A digit that is missing leaves no number. Assumes nothing.
 use Prim.Native.Nat.{_≤_}
 use native.Mathlib.Omega.{arith}
 use borrow.Author.Needs.{needs}
-use Rattle.backslash.proofs.Digits.{digit-most, first-most, four-first, four-second, four-third, four-fourth, four-all}
-use Rattle.backslash.proofs.four_digits.Statement.{statement}
-use Rattle.backslash.proofs.four_digits.Tie as tie
+use Rattle.digits.proofs.Digits.{digit-most, first-most, four-first, four-second, four-third, four-fourth, four-all}
+use Rattle.digits.proofs.four_digits.Statement.{statement}
+use Rattle.digits.proofs.four_digits.Tie as tie
 
 first-value-requires : tie.Need-first-value-requires
 first-value-requires c κs = search needs

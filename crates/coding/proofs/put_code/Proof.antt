@@ -1,4 +1,4 @@
--- `backslash::put_code` meets its contract. One, two or three stores, one behind another. Assumes nothing.
+-- `coding::put_code` meets its contract. One, two or three stores, one behind another. Assumes nothing.
 use mathlib.Core.Path.{sym, ap, _∙_}
 use Prim.Native.Nat.{_+_, _/_, _%_}
 use native.Mathlib.Omega.{arith}
@@ -7,8 +7,8 @@ use borrow.Author.Needs.{needs}
 use Rattle.format.specs.Bytes.{Bytes, pasted}
 use Rattle.format.proofs.Characters.Scalars.{encoding-one, encoding-two, encoding-three}
 use Rattle.octets.proofs.Paste.{pasted-one, stores-two, stores-three}
-use Rattle.backslash.proofs.put_code.Statement.{statement}
-use Rattle.backslash.proofs.put_code.Tie as tie
+use Rattle.coding.proofs.put_code.Statement.{statement}
+use Rattle.coding.proofs.put_code.Tie as tie
 
 cast-out : tie.Need-cast-out
 cast-out c = search needs

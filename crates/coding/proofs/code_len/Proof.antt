@@ -1,10 +1,10 @@
--- `backslash::code_len` meets its contract. The encoding by the size of the number. Assumes nothing.
+-- `coding::code_len` meets its contract. The encoding by the size of the number. Assumes nothing.
 use mathlib.Core.Path.{sym, ap}
 use native.Mathlib.Omega.{arith}
 use lib.ListN.{length}
 use Rattle.format.proofs.Characters.Scalars.{encoding-one, encoding-two, encoding-three, encoding-four}
-use Rattle.backslash.proofs.code_len.Statement.{statement}
-use Rattle.backslash.proofs.code_len.Tie as tie
+use Rattle.coding.proofs.code_len.Statement.{statement}
+use Rattle.coding.proofs.code_len.Tie as tie
 
 returns : tie.Need-returns
 returns c = sym (ap length (encoding-one (c .before .args .n) (omega arith)))
