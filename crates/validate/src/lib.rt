@@ -1,13 +1,12 @@
 // Document 01, "Validators", under the source's names. Each answers with the refusal's number and what it carries, or with
 // 0 and 0; what each refuses, and in which order, is crates/format/specs/Validators.antt.
 
+use classes::Class;
+use classes::any_in;
 use format::Numbers;
 ghost use mathlib.Core.Path.{_≡_};
-ghost use Rattle.format.specs.Bytes.{any};
-ghost use Rattle.format.specs.Characters.{isAsciiControl};
 ghost use Rattle.format.specs.Refusals.{numbers};
-ghost use Rattle.format.specs.Validators.{reservedInName, reservedInParamName, reservedInParamValue, headerName, headerValue, paramName, paramValue, contentType, contentValue};
-ghost use Rattle.validate.specs.Classes.{inClass};
+ghost use Rattle.format.specs.Validators.{headerName, headerValue, paramName, paramValue, contentType, contentValue};
 
 pub const MAX_HEADER_NAME_LENGTH: usize = 128;
 
@@ -18,67 +17,6 @@ pub const MAX_PARAM_NAME_LENGTH: usize = 64;
 pub const MAX_PARAM_VALUE_LENGTH: usize = 256;
 
 pub const MAX_CONTENT_TYPE_LENGTH: usize = 256;
-
-// The bytes that a text is searched for.
-enum Class {
-    Control,
-    Name,
-    ParamName,
-    ParamValue,
-}
-
-// U+0000 to U+001F and U+007F.
-fn is_ascii_control(b: u8) -> bool
-    ensures { λ r. ⌜ r ≡ isAsciiControl b ⌝ }
-{
-    (b < 32) | (b == 127)
-}
-
-// One of `: ; = \ "`.
-fn reserved_in_name(b: u8) -> bool
-    ensures { λ r. ⌜ r ≡ reservedInName b ⌝ }
-{
-    (b == b':') | ((b == b';') | ((b == b'=') | ((b == b'\\') | (b == b'"'))))
-}
-
-// ASCII control or one of `; = \ "`.
-fn reserved_in_param_name(b: u8) -> bool
-    ensures { λ r. ⌜ r ≡ reservedInParamName b ⌝ }
-{
-    is_ascii_control(b) | ((b == b';') | ((b == b'=') | ((b == b'\\') | (b == b'"'))))
-}
-
-// ASCII control or one of `; \ "`.
-fn reserved_in_param_value(b: u8) -> bool
-    ensures { λ r. ⌜ r ≡ reservedInParamValue b ⌝ }
-{
-    is_ascii_control(b) | ((b == b';') | ((b == b'\\') | (b == b'"')))
-}
-
-fn in_class(class: Class, b: u8) -> bool
-    ensures { λ r. ⌜ r ≡ inClass class b ⌝ }
-{
-    match class {
-        Class::Control => is_ascii_control(b),
-        Class::Name => reserved_in_name(b),
-        Class::ParamName => reserved_in_param_name(b),
-        Class::ParamValue => reserved_in_param_value(b),
-    }
-}
-
-// Whether a byte of s is in the class. It reads to the end, so that the loop has one exit: a text that is accepted is
-// read whole anyway.
-fn any_in(class: Class, s: &[u8]) -> bool
-    ensures { λ r. ⌜ r ≡ any (inClass class) (now (s .entry)) ⌝ }
-{
-    let mut found = false;
-    let mut i = 0;
-    while i < s.len() {
-        found = found | in_class(class, s[i]);
-        i += 1;
-    }
-    found
-}
 
 // 6, 7, 8, 9 in that order.
 pub fn validate_header_name(s: &[u8]) -> Numbers

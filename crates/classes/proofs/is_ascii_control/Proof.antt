@@ -1,8 +1,8 @@
--- `validate::is_ascii_control` meets its contract, by computation. Assumes nothing.
+-- `classes::is_ascii_control` meets its contract, by computation. Assumes nothing.
 use mathlib.Core.Path.{refl}
 use Rattle.format.specs.Characters.{isAsciiControl}
-use Rattle.validate.proofs.is_ascii_control.Statement.{statement}
-use Rattle.validate.proofs.is_ascii_control.Tie as tie
+use Rattle.classes.proofs.is_ascii_control.Statement.{statement}
+use Rattle.classes.proofs.is_ascii_control.Tie as tie
 
 returns : tie.Need-returns
 unfolding isAsciiControl

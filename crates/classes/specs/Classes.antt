@@ -3,8 +3,8 @@ use Prim.Native.Nat.{ℕ}
 use mathlib.Core.Bool.{Bool}
 use Rattle.format.specs.Characters.{isAsciiControl}
 use Rattle.format.specs.Validators.{reservedInName, reservedInParamName, reservedInParamValue}
-use Rattle.validate.specs.declared.Class.{Class}
-use Rattle.validate.specs.declared.Class.the-variants.{Control, Name, ParamName, ParamValue}
+use Rattle.classes.specs.declared.Class.{Class}
+use Rattle.classes.specs.declared.Class.the-variants.{Control, Name, ParamName, ParamValue}
 
 -- a byte is in the class
 abbrev pub inClass : Class → ℕ → Bool

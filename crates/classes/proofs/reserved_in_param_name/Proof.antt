@@ -1,11 +1,11 @@
--- `validate::reserved_in_param_name` meets its contract: the tests in the definition's order, which ends in `false`. Assumes nothing.
+-- `classes::reserved_in_param_name` meets its contract: the tests in the definition's order, which ends in `false`. Assumes nothing.
 use mathlib.Core.Path.{refl}
 use mathlib.Core.Bool.{or-false}
 use borrow.Author.Needs.{needs}
 use Rattle.format.specs.Bytes.{any}
 use Rattle.format.specs.Validators.{reservedInParamName}
-use Rattle.validate.proofs.reserved_in_param_name.Statement.{statement}
-use Rattle.validate.proofs.reserved_in_param_name.Tie as tie
+use Rattle.classes.proofs.reserved_in_param_name.Statement.{statement}
+use Rattle.classes.proofs.reserved_in_param_name.Tie as tie
 
 is-ascii-control-requires : tie.Need-is-ascii-control-requires
 is-ascii-control-requires c κs = search needs

@@ -1,4 +1,4 @@
--- `validate::any_in` meets its contract. The invariant: one was found, or one is found from i on. Assumes nothing.
+-- `classes::any_in` meets its contract. The invariant: one was found, or one is found from i on. Assumes nothing.
 use mathlib.Core.Path.{_≡_, refl, sym, ap, _∙_}
 use mathlib.Core.Bool.{Bool, _||_}
 use Prim.Native.Nat.{_+_, _-_, _≤_}
@@ -6,10 +6,10 @@ use native.Mathlib.Omega.{arith}
 use lib.ListN.{length, drop}
 use borrow.Author.Needs.{needs}
 use Rattle.format.specs.Bytes.{any}
-use Rattle.validate.specs.Classes.{inClass}
-use Rattle.validate.proofs.Tests.{any-step, any-end}
-use Rattle.validate.proofs.any_in.Statement.{statement}
-use Rattle.validate.proofs.any_in.Tie as tie
+use Rattle.classes.specs.Classes.{inClass}
+use Rattle.classes.proofs.Searching.{any-step, any-end}
+use Rattle.classes.proofs.any_in.Statement.{statement}
+use Rattle.classes.proofs.any_in.Tie as tie
 
 abbrev Inv-loop : tie.InvT-loop
 Inv-loop class s found₀ i₀ found i = (i ≤ length s) × (any (inClass class) s ≡ (found || any (inClass class) (drop i s)))

@@ -1,7 +1,7 @@
--- `validate::in_class` meets its contract: each arm gives what its class says. Assumes nothing.
+-- `classes::in_class` meets its contract: each arm gives what its class says. Assumes nothing.
 use borrow.Author.Needs.{needs}
-use Rattle.validate.proofs.in_class.Statement.{statement}
-use Rattle.validate.proofs.in_class.Tie as tie
+use Rattle.classes.proofs.in_class.Statement.{statement}
+use Rattle.classes.proofs.in_class.Tie as tie
 
 enum-told : tie.Need-enum-told
 enum-told c = search needs
