@@ -2,10 +2,10 @@
 // altered to several values each. A call is accepted, or refused by 25 carrying 0 with nothing changed; after an accepted one
 // the lookups give what the call defines, and all else as before.
 
-use accessors::content_value;
-use accessors::count_contents;
-use accessors::count_headers;
 use compare::same;
+use content_headers::content_value;
+use counts::count_contents;
+use counts::count_headers;
 use format::Answer;
 use format::CpimHeader;
 use format::CpimMessage;

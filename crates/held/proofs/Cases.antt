@@ -1,6 +1,6 @@
 -- What a call has to show of whatever is held, by the test that it made: where the test fails nothing is held, where it passes a message
 -- is. Assumes nothing.
-use Prim.Native.Nat.{ℕ, _≤_, _<_}
+use Prim.Native.Nat.{ℕ, _+_, _≤_, _<_}
 use mathlib.Core.Path.{_≡_, refl, ap}
 use mathlib.Core.Bool.{true, false}
 use mathlib.Core.Option.{Option, none, some}
@@ -36,6 +36,12 @@ module _ (m : CpimMessage) (head : Bytes) where
   -- the message read from the head store, where the body's bytes are free
   pub in-head : messageHolds m head ≡ true → Holds (headLent m head) (messageIn m head (replicate (m .bodylen) 0))
   in-head h = held-holds m head (replicate (m .bodylen) 0) none h (length-replicate (m .bodylen) 0) tt
+
+  -- its parts are within the head store
+  pub used-within : messageHolds m head ≡ true → 256 + (m .headerlen + m .contentlen) ≤ length head
+  used-within h =
+      let p = held-parts (headLent m head) (messageIn m head (replicate (m .bodylen) 0)) (in-head h) in
+      omega (arith, p .used, p .room)
 
   module _ (P : Option Message → Type 0) where
     pub not-held : (body : Option Bytes) → messageHolds m head ≡ false → P none

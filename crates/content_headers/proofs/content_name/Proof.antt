@@ -1,12 +1,12 @@
--- `accessors::content_name` meets its contract. Assumes nothing.
+-- `content_headers::content_name` meets its contract. Assumes nothing.
 use borrow.Author.Needs.{needs}
 use Rattle.format.specs.Lending.{headLent}
 use Rattle.held.proofs.Held.{held-total}
 use Rattle.nth.proofs.Lists.{entries-shaped, entry-name}
-use Rattle.accessors.specs.Contents.{contentsHeld}
-use Rattle.accessors.proofs.Stores.{nth-content}
-use Rattle.accessors.proofs.content_name.Statement.{statement}
-use Rattle.accessors.proofs.content_name.Tie as tie
+use Rattle.content_headers.specs.Contents.{contentsHeld}
+use Rattle.content_headers.proofs.Stores.{nth-content}
+use Rattle.content_headers.proofs.content_name.Statement.{statement}
+use Rattle.content_headers.proofs.content_name.Tie as tie
 
 contents-requires : tie.Need-contents-requires
 contents-requires c κs = search needs

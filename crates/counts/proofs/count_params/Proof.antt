@@ -1,13 +1,14 @@
--- `accessors::count_params` meets its contract. Assumes nothing.
+-- `counts::count_params` meets its contract. Assumes nothing.
 use mathlib.Core.Path.{_≡_, sym, _∙_}
 use mathlib.Core.Bool.{true}
 use native.Mathlib.Omega.{arith}
 use borrow.Author.Needs.{needs}
 use borrow.Author.Tests.{not-true, not-false}
 use Rattle.held.specs.Holding.{messageHolds}
-use Rattle.accessors.proofs.Stores.{none-params, used-within, headers-few, headers-in-order, params-counted}
-use Rattle.accessors.proofs.count_params.Statement.{statement}
-use Rattle.accessors.proofs.count_params.Tie as tie
+use Rattle.held.proofs.Cases.{used-within}
+use Rattle.counts.proofs.Counts.{none-params, headers-few, headers-in-order, params-counted}
+use Rattle.counts.proofs.count_params.Statement.{statement}
+use Rattle.counts.proofs.count_params.Tie as tie
 
 holds : (c : tie.Else1) → messageHolds (c .before .before .before .args .m) (c .before .before .before .args .head .now) ≡ true
 holds c = sym (c .before .message-holds .ensures) ∙ not-false _ (c .if1 .left)

@@ -1,13 +1,14 @@
--- `accessors::contents` meets its contract. Assumes nothing.
+-- `content_headers::contents` meets its contract. Assumes nothing.
 use mathlib.Core.Path.{sym, _∙_}
 use Prim.Native.Nat.{_+_, _≤_}
 use native.Mathlib.Omega.{arith}
 use lib.ListN.{length}
 use borrow.Author.Needs.{needs}
 use borrow.Author.Tests.{not-true, not-false}
-use Rattle.accessors.proofs.Stores.{no-contents, used-within, contents-listed}
-use Rattle.accessors.proofs.contents.Statement.{statement}
-use Rattle.accessors.proofs.contents.Tie as tie
+use Rattle.held.proofs.Cases.{used-within}
+use Rattle.content_headers.proofs.Stores.{no-contents, contents-listed}
+use Rattle.content_headers.proofs.contents.Statement.{statement}
+use Rattle.content_headers.proofs.contents.Tie as tie
 
 within : (c : tie.Else1)
     → 256 + (c .before .before .before .args .m .headerlen + c .before .before .before .args .m .contentlen) ≤ length (c .before .before .before .args .head .now)

@@ -1,10 +1,10 @@
--- `accessors::count_headers` meets its contract. Assumes nothing.
+-- `counts::count_headers` meets its contract. Assumes nothing.
 use mathlib.Core.Path.{sym, _∙_}
 use borrow.Author.Needs.{needs}
 use borrow.Author.Tests.{not-true, not-false}
-use Rattle.accessors.proofs.Stores.{none-headers, headers-counted}
-use Rattle.accessors.proofs.count_headers.Statement.{statement}
-use Rattle.accessors.proofs.count_headers.Tie as tie
+use Rattle.counts.proofs.Counts.{none-headers, headers-counted}
+use Rattle.counts.proofs.count_headers.Statement.{statement}
+use Rattle.counts.proofs.count_headers.Tie as tie
 
 message-holds-requires : tie.Need-message-holds-requires
 message-holds-requires c κs = search needs
