@@ -1,2 +1,1 @@
-pub mod Grouping
 pub mod Looking

@@ -9,7 +9,7 @@ use Rattle.format.specs.Characters.{isUtf8}
 use Rattle.format.specs.Message.{Header, Message, nameOf, only}
 use Rattle.format.specs.LookingUp.{nth, ofHeld, nthHeader, getParam}
 use Rattle.nth.specs.Listed.{paramsOf}
-use Rattle.lookup.specs.Named.{headersNamed}
+use Rattle.named.specs.Named.{headersNamed}
 
 pub nth-named : (o : Option Message) (name : Bytes) (n : ℕ) → nthHeader o name n ≡ nth n (headersNamed o name)
 unfolding nthHeader headersNamed nth

@@ -4,7 +4,7 @@ use Rattle.format.specs.Lending.{headLent}
 use Rattle.format.specs.LookingUp.{getHeaderValue}
 use Rattle.held.proofs.Held.{held-total}
 use Rattle.nth.proofs.Lists.{headers-shaped, header-value}
-use Rattle.lookup.specs.Named.{headersNamed}
+use Rattle.named.specs.Named.{headersNamed}
 use Rattle.lookup.proofs.Looking.{nth-named}
 use Rattle.lookup.proofs.get_header_value.Statement.{statement}
 use Rattle.lookup.proofs.get_header_value.Tie as tie

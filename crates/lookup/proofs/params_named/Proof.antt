@@ -3,7 +3,7 @@ use borrow.Author.Needs.{needs}
 use Rattle.format.specs.Lending.{headLent}
 use Rattle.held.proofs.Held.{held-total}
 use Rattle.nth.proofs.Lists.{headers-shaped, header-params}
-use Rattle.lookup.specs.Named.{headersNamed}
+use Rattle.named.specs.Named.{headersNamed}
 use Rattle.lookup.proofs.Looking.{nth-named}
 use Rattle.lookup.proofs.params_named.Statement.{statement}
 use Rattle.lookup.proofs.params_named.Tie as tie

@@ -25,7 +25,7 @@ use Rattle.held.proofs.Parts.{HeldParts, held-parts, cut}
 use Rattle.held.proofs.Cases.{in-head, not-held, head-held}
 use Rattle.placing.proofs.Bounds.{part-is}
 use Rattle.nth.specs.Listed.{Listed}
-use Rattle.lookup.specs.Named.{headersNamed}
+use Rattle.named.specs.Named.{headersNamed}
 
 no-headers : Listed layoutHeader [] [] 0
 unfolding texts

@@ -1,4 +1,4 @@
--- `lookup::headers_named` meets its contract. Assumes nothing.
+-- `named::headers_named` meets its contract. Assumes nothing.
 use mathlib.Core.Path.{_≡_, sym, _∙_}
 use mathlib.Core.Bool.{true}
 use Prim.Native.Nat.{_+_, _≤_}
@@ -8,9 +8,9 @@ use borrow.Author.Needs.{needs}
 use borrow.Author.Tests.{not-true, not-false}
 use Rattle.format.specs.Characters.{isUtf8}
 use Rattle.held.specs.Holding.{messageHolds}
-use Rattle.lookup.proofs.Grouping.{none-unheld, none-unnamed, named-within, named-listed}
-use Rattle.lookup.proofs.headers_named.Statement.{statement}
-use Rattle.lookup.proofs.headers_named.Tie as tie
+use Rattle.named.proofs.Grouping.{none-unheld, none-unnamed, named-within, named-listed}
+use Rattle.named.proofs.headers_named.Statement.{statement}
+use Rattle.named.proofs.headers_named.Tie as tie
 
 -- a message is held, and the name is UTF-8
 holds : (c : tie.Else1) → messageHolds (c .before .before .before .before .args .m) (c .before .before .before .before .args .head .now) ≡ true
