@@ -1,16 +1,14 @@
 -- How long the parts of a header that is held alone can be, and how they spell a message's header. Assumes nothing.
-use Prim.Native.Nat.{_+_, _-_, _*_, _≤_}
+use Prim.Native.Nat.{_+_, _-_, _≤_}
 use mathlib.Core.Path.{_≡_, refl, sym, _∙_}
 use mathlib.Core.Bool.{true}
-use mathlib.Core.List.{List, [], _∷_}
 use native.Mathlib.Omega.{arith}
-use lib.ListN.{length, take, drop}
-use Rattle.format.specs.Bytes.{Bytes, all, total}
+use lib.ListN.{take, drop}
+use Rattle.format.specs.Bytes.{Bytes}
 use Rattle.format.specs.Limits.{maxValue, maxParams}
-use Rattle.format.specs.Message.{Entry, LoneHeader, named, validParam, needEntry}
+use Rattle.format.specs.Message.{LoneHeader, named}
 use Rattle.format.specs.Layout.{HoldsAlone}
 use Rattle.format.specs.declared.CpimHeader.{CpimHeader}
-use Rattle.format.proofs.Lists.{all-head, all-tail}
 use Rattle.format.proofs.Messages.Parts as valid
 use Rattle.held.specs.Holding.{headerHolds}
 use Rattle.held.specs.Decoding.{headerIn}
@@ -18,21 +16,8 @@ use Rattle.held.proofs.Parts.{alone-parts}
 use Rattle.held.proofs.Alone.{held-alone-holds}
 use Rattle.placing.specs.Placing.{Spelt}
 use Rattle.placing.proofs.Bounds.{part-is}
-use Rattle.header.proofs.Steps.{name-short, value-short}
+use Rattle.header.proofs.Sizes.{entries-bytes}
 use Rattle.header.proofs.Ways as ways
-
--- a parameter needs at most 16 + 64 + 256 bytes
-entry-bytes : (e : Entry) → validParam e ≡ true → needEntry e ≤ 336
-unfolding needEntry
-entry-bytes e h =
-    let p = valid.param-parts e h in
-    omega (arith, name-short (e .name) (p .named), value-short (e .value) (p .valued))
-
-entries-bytes : (es : List Entry) → all validParam es ≡ true → total needEntry es ≤ 336 * length es
-unfolding total
-entries-bytes [] h = omega arith
-entries-bytes (e ∷ es) h =
-    omega (arith, entry-bytes e (all-head validParam e es h), entries-bytes es (all-tail validParam e es h))
 
 pub record Short (h : CpimHeader) : Type 0 where
   pub value : h .valuelen ≤ maxValue

@@ -6,11 +6,11 @@ use mathlib.Core.Bool.{true}
 use lib.ListN.{length}
 use Rattle.format.specs.Bytes.{Bytes}
 use Rattle.format.specs.Limits.{maxName, maxValue}
-use Rattle.format.specs.Refusals.{Refusal, nameTooLong, valueTooLong, table, Out, numbers, Check, atMost, passes, _>>_}
+use Rattle.format.specs.Refusals.{Refusal, nameTooLong, valueTooLong, table, Out, accepted, numbers, Check, atMost, passes, _>>_}
 use Rattle.format.specs.Validators.{headerName, headerValue, contentValue}
 use Rattle.format.specs.Message.{Message}
 use Rattle.format.specs.Layout.{Lent}
-use Rattle.format.specs.Lending.{headLent, numbersOf, leaves}
+use Rattle.format.specs.Lending.{headLent, numbersOf, laidIn, leaves}
 use Rattle.format.specs.declared.Numbers.{Numbers}
 use Rattle.format.specs.declared.CpimMessage.{CpimMessage}
 use Rattle.format.specs.declared.Answer.{Answer}
@@ -34,6 +34,11 @@ module _ (l k : Lent) (n : Numbers) (x : Check) (o : Out Message) where
   does-passed h d =
       let e = sym (then-passed x o h) in
       record { answered = d .answered ∙ ap numbers e; left = d .left ∙ ap (leaves l) e }
+
+-- a message is accepted
+pub does-accepted : (l k : Lent) (m : Message) → k ≡ laidIn l m → Does l k (record { number = 0; carried = 0 }) (accepted m)
+unfolding leaves numbers
+does-accepted l k m e = record { answered = refl; left = e }
 
 -- a number over its limit
 pub does-over : (l k : Lent) (n : Numbers) (limit : ℕ) (r : ℕ → Refusal) (i : ℕ) (o : Out Message) → limit < i → n ≡ table (r i) → k ≡ l

@@ -44,19 +44,15 @@ pub fn refused(n: Numbers, m: CpimMessage) -> Answer
 pub fn ready(m: CpimMessage, head: &[u8], a: &[u8], b: &[u8]) -> Numbers
     ensures { λ r. ⌜ r ≡ numbers (readiness (messageHolds m (now (head .entry))) (isUtf8 (now (a .entry)) && isUtf8 (now (b .entry)))) ⌝ }
 {
-    if !held::message_holds(m, head) {
+    let held = held::message_holds(m, head);
+    let texts = is_utf8(a) & is_utf8(b);
+    if !held {
         return Numbers {
             number: 25,
             carried: 0,
         };
     }
-    if !is_utf8(a) {
-        return Numbers {
-            number: 24,
-            carried: 0,
-        };
-    }
-    if !is_utf8(b) {
+    if !texts {
         return Numbers {
             number: 24,
             carried: 0,
@@ -97,12 +93,13 @@ pub fn set_held(m: CpimMessage, head: &mut [u8], name: &[u8], value: &[u8]) -> A
     requires { ⌜ messageHolds m (now head) ≡ true ⌝ }
     ensures { λ r. ⌜ ((k : Message) → Holds (headLent m (now (head .entry))) k → Does (headLent m (now (head .entry))) (headLent (r .message) (now (head .exit))) (numbersOf r) (setHeader (now (name .entry)) (now (value .entry)) (lengths (headLent m (now (head .entry)))) k)) ⌝ }
 {
-    let n = validate_header_name(name);
-    if n.number != 0 {
-        return refused(n, m);
-    }
+    let named = validate_header_name(name);
     let g = headers_of(m, head, name);
     let others = m.headers - g.many;
+    let valued = validate_cpim_header_value(value);
+    if named.number != 0 {
+        return refused(named, m);
+    }
     if MAX_HEADERS <= others {
         return Answer {
             number: 20,
@@ -110,9 +107,8 @@ pub fn set_held(m: CpimMessage, head: &mut [u8], name: &[u8], value: &[u8]) -> A
             message: m,
         };
     }
-    let v = validate_cpim_header_value(value);
-    if v.number != 0 {
-        return refused(v, m);
+    if valued.number != 0 {
+        return refused(valued, m);
     }
     put_header(m, head, g.at, g.size, g.many, name, value, 0, b"")
 }
@@ -123,10 +119,10 @@ pub fn add_held(m: CpimMessage, head: &mut [u8], name: &[u8], value: &[u8]) -> A
     ensures { λ r. ⌜ ((k : Message) → Holds (headLent m (now (head .entry))) k → Does (headLent m (now (head .entry))) (headLent (r .message) (now (head .exit))) (numbersOf r) (addHeader (now (name .entry)) (now (value .entry)) (lengths (headLent m (now (head .entry)))) k)) ⌝ }
 {
     let v = validate_cpim_header_value(value);
+    let n = validate_header_name(name);
     if v.number != 0 {
         return refused(v, m);
     }
-    let n = validate_header_name(name);
     if n.number != 0 {
         return refused(n, m);
     }
@@ -138,21 +134,23 @@ pub fn content_held(m: CpimMessage, head: &mut [u8], name: &[u8], value: &[u8]) 
     requires { ⌜ messageHolds m (now head) ≡ true ⌝ }
     ensures { λ r. ⌜ ((k : Message) → Holds (headLent m (now (head .entry))) k → Does (headLent m (now (head .entry))) (headLent (r .message) (now (head .exit))) (numbersOf r) (addContentHeader (now (name .entry)) (now (value .entry)) (lengths (headLent m (now (head .entry)))) k)) ⌝ }
 {
-    let n = validate_header_name(name);
-    if n.number != 0 {
-        return refused(n, m);
+    let on_name = validate_header_name(name);
+    let on_value = validate_content_header_value(value);
+    let g = contents_of(m, head, name);
+    let many = g.many;
+    let count = m.contents + 1;
+    if on_name.number != 0 {
+        return refused(on_name, m);
     }
-    let v = validate_content_header_value(value);
-    if v.number != 0 {
-        return refused(v, m);
+    if on_value.number != 0 {
+        return refused(on_value, m);
     }
-    if MAX_CONTENT_HEADERS <= m.contents {
+    if MAX_CONTENT_HEADERS < count {
         return Answer {
             number: 22,
-            carried: (m.contents + 1) as u64,
+            carried: count as u64,
             message: m,
         };
     }
-    let g = contents_of(m, head, name);
-    put_content(m, head, g.at, g.size, g.many, name, value)
+    put_content(m, head, g.at, g.size, many, name, value)
 }

@@ -43,15 +43,15 @@ four-parts a b c d s =
     ∙ ap (λ (x : Bytes). take c (drop (a + b) s) ++ take d x) (drop-drop c (a + b) s ∙ ap (λ (n : ℕ). drop n s) (add-assoc a b c))))
 
 module _ (s : Bytes) (h : Shape s) where
-  name-length : length (nameIn s) ≡ nameLength s
+  pub name-length : length (nameIn s) ≡ nameLength s
   unfolding nameIn sizeIn
   name-length = length-take-le (nameLength s) (drop 16 s) (simp length-drop (omega (arith, h .whole)))
 
-  value-length : length (valueIn s) ≡ valueLength s
+  pub value-length : length (valueIn s) ≡ valueLength s
   unfolding valueIn sizeIn
   value-length = length-take-le (valueLength s) (drop (16 + nameLength s) s) (simp length-drop (omega (arith, h .whole)))
 
-  tail-length : length (tailIn s) ≡ tailLength s
+  pub tail-length : length (tailIn s) ≡ tailLength s
   unfolding tailIn sizeIn
   tail-length = length-take-le (tailLength s) (drop (16 + (nameLength s + valueLength s)) s) (simp length-drop (omega (arith, h .whole)))
 

@@ -6,8 +6,8 @@ use format::HeaderAnswer;
 use format::Numbers;
 use groups::Group;
 use groups::find_group;
-use held::MAX_PARAMS_PER_HEADER;
 use held::header_holds;
+use kinds::MAX_PARAMS_PER_HEADER;
 use octets::copy_at;
 use store::replace;
 use utf8::is_utf8;
@@ -97,7 +97,7 @@ fn put_param(
 }
 
 // A parameter set in a header that is held: name, value, 21 even when replacing, 25.
-fn set_param_held(h: CpimHeader, store: &mut [u8], name: &[u8], value: &[u8]) -> HeaderAnswer
+pub fn set_param_held(h: CpimHeader, store: &mut [u8], name: &[u8], value: &[u8]) -> HeaderAnswer
     requires { ⌜ headerHolds h (now store) ≡ true ⌝ }
     ensures { λ r. ⌜ ((k : LoneHeader) → HoldsAlone h (now (store .entry)) k → DoesAlone (aloneIn h (now (store .entry))) (aloneIn (r .header) (now (store .exit))) (headerNumbers r) (setIn (now (name .entry)) (now (value .entry)) (length (now (store .entry))) k)) ⌝ }
 {

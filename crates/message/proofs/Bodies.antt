@@ -143,11 +143,6 @@ module _ (m : CpimMessage) (head store : Bytes) (r : Answer) (i j : ℕ) (x : Ch
       does-refused (bothLent m head store) (bothLent (r .message) head store) (numbersOf r) x o (ap numbersOf e ∙ a)
       (λ w. z (ap (λ (q : Answer). q .number) (sym e) ∙ w)) (ap (λ (q : Answer). bothLent (q .message) head store) e)
 
--- what is accepted
-pub does-accepted : (l k : Lent) (m : Message) → k ≡ laidIn l m → Does l k (record { number = 0; carried = 0 }) (accepted m)
-unfolding leaves numbers
-does-accepted l k m e = record { answered = refl; left = e }
-
 pub new-laid : (t b head store after kept : Bytes) → after ≡ over (layout (fresh t b)) head → kept ≡ over b store
     → bothLent (record { typelen = length t; headers = 0; headerlen = 0; contents = 0; contentlen = 0; bodylen = length b }) after kept
     ≡ laidIn (bothLent emptyMessage head store) (fresh t b)

@@ -17,7 +17,7 @@ ghost use Rattle.format.specs.Layout.{emptyMessage};
 ghost use Rattle.format.specs.Lending.{headLent, bothLent, numbersOf, Changed, Made};
 
 // A refusal of a call that hands back no message.
-fn nothing(number: u64, carried: u64) -> Answer
+pub fn nothing(number: u64, carried: u64) -> Answer
     ensures { λ r. ⌜ r ≡ record { number = number; carried = carried; message = emptyMessage } ⌝ }
 {
     Answer {
@@ -76,6 +76,7 @@ pub fn new(content_type: &[u8], body: &[u8], head: &mut [u8], store: &mut [u8]) 
 pub fn set_body(m: CpimMessage, head: &[u8], store: &mut [u8], body: &[u8]) -> Answer
     ensures { λ r. ⌜ Changed (set-body (now (body .entry))) (bothLent m (now (head .entry)) (now (store .entry))) (bothLent (r .message) (now (head .exit)) (now (store .exit))) (numbersOf r) ⌝ }
 {
+    let len = body.len();
     if !held::message_holds(m, head) {
         return refused(
             Numbers {
@@ -94,20 +95,20 @@ pub fn set_body(m: CpimMessage, head: &[u8], store: &mut [u8], body: &[u8]) -> A
             m,
         );
     }
-    if MAX_BODY_SIZE < body.len() {
+    if MAX_BODY_SIZE < len {
         return refused(
             Numbers {
                 number: 23,
-                carried: body.len() as u64,
+                carried: len as u64,
             },
             m,
         );
     }
-    if store.len() < body.len() {
+    if store.len() < len {
         return refused(
             Numbers {
                 number: 26,
-                carried: body.len() as u64,
+                carried: len as u64,
             },
             m,
         );
@@ -122,7 +123,7 @@ pub fn set_body(m: CpimMessage, head: &[u8], store: &mut [u8], body: &[u8]) -> A
             headerlen: m.headerlen,
             contents: m.contents,
             contentlen: m.contentlen,
-            bodylen: body.len(),
+            bodylen: len,
         },
     }
 }

@@ -14,8 +14,8 @@ use Rattle.format.specs.Layout.{emptyMessage}
 use Rattle.format.specs.Lending.{bothLent, lengths, lengthOf}
 use Rattle.format.proofs.Answers.{zero-passes, room-short, room-enough, space-short, space-enough}
 use Rattle.format.proofs.Messages.Layout.{contentType-length}
-use Rattle.changing.proofs.Steps.{does-passed}
-use Rattle.message.proofs.Bodies.{made, utf8-refused, utf8-passed, type-laid, new-laid, body-over, body-within, given-back, does-accepted}
+use Rattle.changing.proofs.Steps.{does-passed, does-accepted}
+use Rattle.message.proofs.Bodies.{made, utf8-refused, utf8-passed, type-laid, new-laid, body-over, body-within, given-back}
 use Rattle.message.proofs.new.Statement.{statement}
 use Rattle.message.proofs.new.Tie as tie
 

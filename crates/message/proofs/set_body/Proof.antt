@@ -9,9 +9,9 @@ use Rattle.format.specs.Calls.{setBody, bodyLength, enough, withBody}
 use Rattle.format.specs.Lending.{bothLent, lengths, lengthOf}
 use Rattle.format.proofs.Answers.{space-short, space-enough}
 use Rattle.octets.proofs.Paste.{pasted-start}
-use Rattle.changing.proofs.Steps.{does-passed}
+use Rattle.changing.proofs.Steps.{does-passed, does-accepted}
 use Rattle.changing.proofs.Ways.{first-fails, second-fails}
-use Rattle.message.proofs.Bodies.{body-laid, body-over, body-within, given-back, does-accepted, body-unheld, body-done}
+use Rattle.message.proofs.Bodies.{body-laid, body-over, body-within, given-back, body-unheld, body-done}
 use Rattle.message.proofs.set_body.Statement.{statement}
 use Rattle.message.proofs.set_body.Tie as tie
 
