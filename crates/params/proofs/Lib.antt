@@ -1,0 +1,5 @@
+pub mod Yielding
+pub mod Setting
+pub mod Parting
+pub mod Turns
+pub mod Gathering

@@ -1,0 +1,118 @@
+-- `reading::put_body` meets its contract: the checks, and the body at the store's start. Assumes nothing.
+use mathlib.Core.Path.{_≡_, refl, sym, ap, _∙_}
+use mathlib.Core.Bool.{Bool, true, false}
+use Prim.Native.Nat.{_-_}
+use native.Mathlib.Omega.{arith}
+use lib.ListN.{length, take, drop}
+use borrow.Author.Needs.{needs}
+use Rattle.format.specs.Bytes.{Bytes, pasted}
+use Rattle.format.specs.Lending.{numbersOf}
+use Rattle.format.proofs.Lists.{rest-is}
+use Rattle.octets.proofs.Paste.{pasted-start}
+use Rattle.bodies.specs.Body.{joined}
+use Rattle.bodies.proofs.Joining.{body-crlf}
+use Rattle.text_parts.specs.Judging.{bodyBehind}
+use Rattle.reading.proofs.Stores.{body-long, body-short, body-laid}
+use Rattle.reading.proofs.put_body.Statement.{statement}
+use Rattle.reading.proofs.put_body.Tie as tie
+
+abbrev text-at : tie.Start → Bytes
+text-at c = c .args .text .now
+
+abbrev body-at : tie.Start → Bytes
+body-at c = bodyBehind (c .args .crlf) (drop (c .args .rest) (text-at c))
+
+-- the part of the text that is lent to the copy, and to the joining
+part-is-body : (c : tie.Start) → c .args .crlf ≡ true → take (length (text-at c) - c .args .rest) (drop (c .args .rest) (text-at c)) ≡ body-at c
+part-is-body c h =
+    rest-is (text-at c) (c .args .rest) ∙ sym (ap (λ (b : Bool). bodyBehind b (drop (c .args .rest) (text-at c))) h ∙ body-crlf (drop (c .args .rest) (text-at c)))
+
+joined-is-body : (c : tie.Start) → c .args .crlf ≡ false → joined (take (length (text-at c) - c .args .rest) (drop (c .args .rest) (text-at c))) ≡ body-at c
+joined-is-body c h = ap joined (rest-is (text-at c) (c .args .rest)) ∙ ap (λ (b : Bool). bodyBehind b (drop (c .args .rest) (text-at c))) (sym h)
+
+body-len-requires : tie.Need-body-len-requires
+body-len-requires c κs = search needs
+
+nothing-requires : tie.Need-nothing-requires
+nothing-requires c κs = search needs
+
+returns : tie.Need-returns
+returns c =
+    let start = c .before .before .before .before .before in
+    λ head k held. body-long (start .args .m) head (start .args .store .now) (body-at start) k held _ (c .before .before .body-len .ensures) _ _ (omega arith) (omega arith) (ap numbersOf (c .nothing .ensures))
+
+nothing-requires-2 : tie.Need-nothing-requires-2
+nothing-requires-2 c κs = search needs
+
+returns-2 : tie.Need-returns-2
+returns-2 c =
+    let start = c .before .before .before .before .before .before in
+    λ head k held. body-short (start .args .m) head (start .args .store .now) (body-at start) k held _ (c .before .before .before .body-len .ensures) _ _ (omega arith) (omega arith) (omega arith) (ap numbersOf (c .nothing2 .ensures))
+
+sub-copy-at : tie.Need-sub-copy-at
+sub-copy-at c = search needs
+
+part-copy-at-start : tie.Need-part-copy-at-start
+part-copy-at-start c = search needs
+
+part-copy-at-end : tie.Need-part-copy-at-end
+part-copy-at-end c = search needs
+
+copy-at-requires : tie.Need-copy-at-requires
+copy-at-requires c κs =
+    let start = c .before .before .before .before .before .before .before .before in
+    omega (arith, ap length (part-is-body start (c .before .before .if3 .taken)), c .before .before .before .before .before .body-len .ensures)
+
+same-length : tie.Need-same-length
+same-length c = search needs
+
+returns-3 : tie.Need-returns-3
+returns-3 c =
+    let start = c .before .before .before .before .before .before .before .before .before .before .before in
+    let wrote = c .before .before .copy-at .ensures ∙ ap (λ (s : Bytes). pasted 0 s (start .args .store .now)) (part-is-body start (c .before .before .before .before .before .if3 .taken)) ∙ pasted-start (body-at start) (start .args .store .now) in
+    λ head k held. body-laid (start .args .m) head (start .args .store .now) (body-at start) k held _ (c .before .before .before .before .before .before .before .before .body-len .ensures) _ _ (omega arith) (omega arith) wrote refl
+
+sub-join-into : tie.Need-sub-join-into
+sub-join-into c = search needs
+
+part-join-into-start : tie.Need-part-join-into-start
+part-join-into-start c = search needs
+
+part-join-into-end : tie.Need-part-join-into-end
+part-join-into-end c = search needs
+
+join-into-requires : tie.Need-join-into-requires
+join-into-requires c κs =
+    let start = c .before .before .before .before .before .before .before .before in
+    omega (arith, ap length (joined-is-body start (c .before .before .if3 .left)), c .before .before .before .before .before .body-len .ensures)
+
+same-length-2 : tie.Need-same-length-2
+same-length-2 c = search needs
+
+returns-4 : tie.Need-returns-4
+returns-4 c =
+    let start = c .before .before .before .before .before .before .before .before .before .before .before in
+    let wrote = c .before .before .join-into .ensures ∙ ap (λ (s : Bytes). pasted 0 s (start .args .store .now)) (joined-is-body start (c .before .before .before .before .before .if3 .left)) ∙ pasted-start (body-at start) (start .args .store .now) in
+    λ head k held. body-laid (start .args .m) head (start .args .store .now) (body-at start) k held _ (c .before .before .before .before .before .before .before .before .body-len .ensures) _ _ (omega arith) (omega arith) wrote refl
+
+pub put-body-spec : {M : Type 1} → statement M
+put-body-spec =
+    tie.close
+    (tie.spec
+    body-len-requires
+    nothing-requires
+    returns
+    nothing-requires-2
+    returns-2
+    sub-copy-at
+    part-copy-at-start
+    part-copy-at-end
+    copy-at-requires
+    same-length
+    returns-3
+    sub-join-into
+    part-join-into-start
+    part-join-into-end
+    join-into-requires
+    same-length-2
+    returns-4)

@@ -1,0 +1,156 @@
+// Document 01, "Reading": `parse_cpim`. A text is judged (crate texts), its header lines and content lines are read into the head store
+// (crate linewise), and its body is laid into the body store. A refused reading leaves zeros in both stores.
+
+use bodies::join_into;
+use compare::says;
+use content_line::put_type;
+use format::Answer;
+use format::CpimMessage;
+use held::MAX_BODY_SIZE;
+use message::nothing;
+use octets::copy_at;
+use octets::zero_fill;
+use section_lines::read_contents;
+use section_lines::read_headers;
+use text_parts::Judgement;
+use text_parts::body_len;
+use text_parts::judge;
+ghost use Prim.Native.Nat.{_≤_};
+ghost use lib.ListN.{length, drop};
+ghost use Rattle.format.specs.Bytes.{Bytes};
+ghost use Rattle.format.specs.Limits.{maxText};
+ghost use Rattle.format.specs.Message.{Message};
+ghost use Rattle.format.specs.Calls.{setBody};
+ghost use Rattle.format.specs.Reading.{blank, read};
+ghost use Rattle.format.specs.Layout.{Holds, emptyMessage};
+ghost use Rattle.format.specs.Lending.{headLent, bothLent, lengths, numbersOf, Parsed};
+ghost use Rattle.sections.specs.declared.Places.the-variants.{Four};
+ghost use Rattle.text_parts.specs.Judging.{Stands, bodyBehind};
+ghost use Rattle.reading.specs.Outcome.{ReadBy};
+
+// What reading starts from: the type text/plain, no entry, an empty body.
+fn start(head: &mut [u8]) -> CpimMessage
+    requires { ⌜ 256 ≤ length (now head) ⌝ }
+    ensures { λ r. ⌜ Holds (headLent r (now (head .exit))) blank ⌝ }
+{
+    put_type(head, b"text/plain");
+    CpimMessage {
+        typelen: 10,
+        headers: 0,
+        headerlen: 0,
+        contents: 0,
+        contentlen: 0,
+        bodylen: 0,
+    }
+}
+
+// The body over the store's first bytes: 23, then 26. Each byte is copied once.
+fn put_body(text: &[u8], crlf: bool, rest: usize, m: CpimMessage, store: &mut [u8]) -> Answer
+    requires { ⌜ (rest ≤ length (now text)) × (length (now text) ≤ maxText) ⌝ }
+    ensures { λ r. ⌜ ((head : Bytes) (k : Message) → Holds (headLent m head) k → ReadBy (bothLent m head (now (store .entry))) (bothLent (r .message) head (now (store .exit))) (numbersOf r) (setBody (bodyBehind crlf (drop rest (now (text .entry)))) (lengths (bothLent m head (now (store .entry)))) k)) ⌝ }
+{
+    let n = body_len(text, crlf, rest);
+    if MAX_BODY_SIZE < n {
+        return nothing(23, n as u64);
+    }
+    if store.len() < n {
+        return nothing(26, n as u64);
+    }
+    let r = Answer {
+        number: 0,
+        carried: 0,
+        message: CpimMessage {
+            typelen: m.typelen,
+            headers: m.headers,
+            headerlen: m.headerlen,
+            contents: m.contents,
+            contentlen: m.contentlen,
+            bodylen: n,
+        },
+    };
+    if crlf {
+        copy_at(store, 0, &text[rest..]);
+        return r;
+    }
+    join_into(store, 0, &text[rest..]);
+    r
+}
+
+// 3, 25 carrying 256, headers, content headers, body.
+fn read_parts(
+    text: &[u8],
+    crlf: bool,
+    end1: usize,
+    start2: usize,
+    end2: usize,
+    start3: usize,
+    end3: usize,
+    rest: usize,
+    head: &mut [u8],
+    body: &mut [u8],
+) -> Answer
+    requires { ⌜ Stands (now text) crlf (Four end1 start2 end2 start3 end3 rest) ⌝ }
+    ensures { λ r. ⌜ ReadBy (bothLent emptyMessage (now (head .entry)) (now (body .entry))) (bothLent (r .message) (now (head .exit)) (now (body .exit))) (numbersOf r) (read (now (text .entry)) (lengths (bothLent emptyMessage (now (head .entry)) (now (body .entry))))) ⌝ }
+{
+    if !says(&text[..end1], b"message/cpim") {
+        return nothing(3, 0);
+    }
+    if head.len() < 256 {
+        return nothing(25, 256);
+    }
+    let m = start(head);
+    let mut params = [0u8; 3376];
+    let mut value = [0u8; 1024];
+    let h = read_headers(&text[start2..end2], m, head, &mut params, &mut value);
+    if h.number != 0 {
+        return h;
+    }
+    let k = read_contents(&text[start3..end3], h.message, head);
+    if k.number != 0 {
+        return k;
+    }
+    put_body(text, crlf, rest, k.message, body)
+}
+
+// 1, 24, 2 before all others.
+fn read_text(text: &[u8], head: &mut [u8], body: &mut [u8]) -> Answer
+    ensures { λ r. ⌜ ReadBy (bothLent emptyMessage (now (head .entry)) (now (body .entry))) (bothLent (r .message) (now (head .exit)) (now (body .exit))) (numbersOf r) (read (now (text .entry)) (lengths (bothLent emptyMessage (now (head .entry)) (now (body .entry))))) ⌝ }
+{
+    let judgement = judge(text);
+    match judgement {
+        Judgement::Refused { number, carried } => nothing(number, carried),
+        Judgement::Parted {
+            crlf,
+            end1,
+            start2,
+            end2,
+            start3,
+            end3,
+            rest,
+        } => read_parts(
+            text,
+            crlf,
+            end1,
+            start2,
+            end2,
+            start3,
+            end3,
+            rest,
+            head,
+            body,
+        ),
+    }
+}
+
+// A text read into lent stores; refused, the record is empty and both stores are zeros.
+pub fn parse_cpim(text: &[u8], head: &mut [u8], body: &mut [u8]) -> Answer
+    ensures { λ r. ⌜ Parsed (now (text .entry)) (bothLent emptyMessage (now (head .entry)) (now (body .entry))) (bothLent (r .message) (now (head .exit)) (now (body .exit))) (numbersOf r) ⌝ }
+{
+    let r = read_text(text, head, body);
+    if r.number != 0 {
+        zero_fill(head);
+        zero_fill(body);
+        return nothing(r.number, r.carried);
+    }
+    r
+}
