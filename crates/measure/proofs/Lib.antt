@@ -1,0 +1,4 @@
+pub mod Passing
+pub mod Headed
+pub mod Lengths
+pub mod Whole

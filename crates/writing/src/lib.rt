@@ -1,0 +1,72 @@
+// Document 01, "Writing": `to_string`, on any record and any bytes. The length is known before the first byte is written: refused, it writes
+// nothing.
+
+use format::CpimMessage;
+use format::Numbers;
+use held::message_holds;
+use measure::text_len;
+use utf8::utf8_end;
+use writer::write_text;
+ghost use mathlib.Core.Path.{_≡_};
+ghost use mathlib.Core.Bool.{true};
+ghost use Prim.Native.Nat.{_≤_};
+ghost use lib.ListN.{length};
+ghost use Rattle.format.specs.Bytes.{over};
+ghost use Rattle.format.specs.Lending.{bothLent, Wrote};
+ghost use Rattle.format.specs.Writing.{write};
+ghost use Rattle.characters.specs.Lengths.{utf8End};
+ghost use Rattle.held.specs.Holding.{messageHolds};
+ghost use Rattle.held.specs.Decoding.{messageIn};
+
+// The text of a message that is held, with this body; `end` is where UTF-8 ends in it.
+fn put_held(m: CpimMessage, head: &[u8], body: &[u8], end: usize, out: &mut [u8])
+    requires { ⌜ (messageHolds m (now head) ≡ true) × (end ≡ utf8End (now body) 0) × (length (write (messageIn m (now head) (now body))) ≤ length (now out)) ⌝ }
+    ensures { λ _. ⌜ now (out .exit) ≡ over (write (messageIn m (now (head .entry)) (now (body .entry)))) (now (out .entry)) ⌝ }
+{
+    let from = 256 + m.headerlen;
+    let to = from + m.contentlen;
+    let kind = m.typelen;
+    write_text(
+        out,
+        &head[256..from],
+        m.headers,
+        &head[..kind],
+        &head[from..to],
+        m.contents,
+        body,
+        end,
+    );
+}
+
+// 25 carrying 0, then 26.
+pub fn to_string(m: CpimMessage, head: &[u8], body: &[u8], out: &mut [u8]) -> Numbers
+    ensures { λ r. ⌜ Wrote (bothLent m (now (head .entry)) (now (body .entry))) (now (out .entry)) (now (out .exit)) r ⌝ }
+{
+    if !message_holds(m, head) {
+        return Numbers {
+            number: 25,
+            carried: 0,
+        };
+    }
+    if body.len() < m.bodylen {
+        return Numbers {
+            number: 25,
+            carried: 0,
+        };
+    }
+    let size = m.bodylen;
+    let held = &body[..size];
+    let end = utf8_end(held, 0);
+    let n = text_len(m, head, held, end);
+    if out.len() < n {
+        return Numbers {
+            number: 26,
+            carried: n as u64,
+        };
+    }
+    put_held(m, head, held, end, out);
+    Numbers {
+        number: 0,
+        carried: 0,
+    }
+}
