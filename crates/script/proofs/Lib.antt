@@ -1,0 +1,5 @@
+pub mod Places
+pub mod Ends
+pub mod Calls
+pub mod Steps
+pub mod Examples

@@ -1,0 +1,60 @@
+-- `script::argument_at` meets its contract. Assumes nothing.
+use Prim.Native.Nat.{_-_}
+use native.Mathlib.Omega.{arith}
+use borrow.Author.Needs.{needs}
+use Rattle.script.proofs.Places.{whole-within, argument-part}
+use Rattle.script.proofs.argument_at.Statement.{statement}
+use Rattle.script.proofs.argument_at.Tie as tie
+
+add-from : tie.Need-add-from
+add-from c =
+    let start = c .before in
+    let s = start .args .s .now in
+    let at = start .args .at in
+    omega (arith, whole-within s at (start .pre))
+
+number-at-requires : tie.Need-number-at-requires
+number-at-requires c κs =
+    let start = c .before in
+    let s = start .args .s .now in
+    let at = start .args .at in
+    omega (arith, whole-within s at (start .pre))
+
+add-to : tie.Need-add-to
+add-to c =
+    let start = c .before .before in
+    let s = start .args .s .now in
+    let at = start .args .at in
+    omega (arith, whole-within s at (start .pre), c .number-at .ensures .0)
+
+sub-result : tie.Need-sub-result
+sub-result c = search needs
+
+part-result-start : tie.Need-part-result-start
+part-result-start c = search needs
+
+part-result-end : tie.Need-part-result-end
+part-result-end c =
+    let start = c .before .before in
+    let s = start .args .s .now in
+    let at = start .args .at in
+    omega (arith, whole-within s at (start .pre), c .number-at .ensures .0)
+
+returns : tie.Need-returns
+returns c =
+    let start = c .before .before .before in
+    let s = start .args .s .now in
+    let at = start .args .at in
+    argument-part s at (c .before .number-at .result) (c .before .number-at .ensures .0)
+
+pub argument-at-spec : {M : Type 1} → statement M
+argument-at-spec =
+    tie.close
+    (tie.spec
+    add-from
+    number-at-requires
+    add-to
+    sub-result
+    part-result-start
+    part-result-end
+    returns)
