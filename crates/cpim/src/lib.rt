@@ -5,9 +5,40 @@ use format::Answer;
 use format::CpimHeader;
 use format::CpimMessage;
 use format::HeaderAnswer;
+use format::Numbers;
+use text_parts::BodyAnswer;
+use whole::Loss;
+ghost use mathlib.Core.Path.{_≡_};
+ghost use mathlib.Core.Bool.{true};
+ghost use mathlib.Core.Logic.{_↔_};
+ghost use mathlib.Core.Option.{Option};
+ghost use lib.ListN.{length};
+ghost use Rattle.format.specs.Refusals.{numbers};
+ghost use Rattle.format.specs.Message.{Message};
 ghost use Rattle.format.specs.Calls.{set-body, set-header, add-header, add-content-header, with-from, with-to, with-datetime, with-subject, with-subject-lang, with-cc, with-ns, with-require, with-content-header};
-ghost use Rattle.format.specs.Layout.{emptyMessage};
-ghost use Rattle.format.specs.Lending.{headLent, bothLent, numbersOf, headerNumbers, Changed, Made, MadeHeader, ParamSet, HeaderAdded};
+ghost use Rattle.format.specs.LookingUp.{findBody, bodyLengthOf, bufferAfter};
+ghost use Rattle.format.specs.Layout.{emptyMessage, Holds, Held};
+ghost use Rattle.format.specs.Lending.{headLent, bothLent, lengths, numbersOf, headerNumbers, Changed, Made, Parsed, Wrote, MadeHeader, ParamSet, HeaderAdded};
+ghost use Rattle.format.specs.Runs.{Run};
+ghost use Rattle.format.specs.Demand3.{after};
+ghost use Rattle.script.specs.Script.{state, callsIn};
+ghost use Rattle.whole.specs.Loss.{lossHeld, wholeHeld, ReadsBack};
+
+#[no_mangle]
+pub extern "C" fn cpim_parse(text: &[u8], head: &mut [u8], body: &mut [u8]) -> Answer
+    ensures { λ r. ⌜ Parsed (now (text .entry)) (bothLent emptyMessage (now (head .entry)) (now (body .entry))) (bothLent (r .message) (now (head .exit)) (now (body .exit))) (numbersOf r) ⌝ }
+{
+    reading::parse_cpim(text, head, body)
+}
+
+#[no_mangle]
+pub extern "C" fn cpim_read_body(text: &[u8], buffer: &mut [u8]) -> BodyAnswer
+    ensures answered { λ r. ⌜ record { number = r .number; carried = r .carried } ≡ numbers (findBody (now (text .entry)) (length (now (buffer .entry)))) ⌝ }
+    ensures length { λ r. ⌜ r .length ≡ bodyLengthOf (findBody (now (text .entry)) (length (now (buffer .entry)))) ⌝ }
+    ensures written { λ r. ⌜ now (buffer .exit) ≡ bufferAfter (now (text .entry)) (now (buffer .entry)) ⌝ }
+{
+    text_parts::read_body(text, buffer)
+}
 
 #[no_mangle]
 pub extern "C" fn cpim_new(
@@ -153,6 +184,49 @@ pub extern "C" fn cpim_with_content_header(
     ensures { λ r. ⌜ Changed (with-content-header (now (name .entry)) (now (value .entry))) (headLent m (now (head .entry))) (headLent (r .message) (now (head .exit))) (numbersOf r) ⌝ }
 {
     builders::with_content_header(m, head, name, value)
+}
+
+// A script of changing calls (crates/script/specs/Script.antt), run one behind another; the record is the last call's.
+#[no_mangle]
+pub extern "C" fn cpim_run(
+    script: &[u8],
+    m: CpimMessage,
+    head: &mut [u8],
+    body: &mut [u8],
+) -> CpimMessage
+    ensures run { λ r. ⌜ Run (state m (now (head .entry)) (now (body .entry))) (callsIn (now (script .entry))) (state r (now (head .exit)) (now (body .exit))) ⌝ }
+    ensures held { λ r. ⌜ ((k : Message) → Holds (bothLent m (now (head .entry)) (now (body .entry))) k → Holds (bothLent r (now (head .exit)) (now (body .exit))) (after (lengths (bothLent m (now (head .entry)) (now (body .entry)))) k (callsIn (now (script .entry))))) ⌝ }
+{
+    running::run(script, m, head, body)
+}
+
+#[no_mangle]
+pub extern "C" fn cpim_to_string(
+    m: CpimMessage,
+    head: &[u8],
+    body: &[u8],
+    out: &mut [u8],
+) -> Numbers
+    ensures { λ r. ⌜ Wrote (bothLent m (now (head .entry)) (now (body .entry))) (now (out .entry)) (now (out .exit)) r ⌝ }
+{
+    writing::to_string(m, head, body, out)
+}
+
+// Whether reading its text, with room for it, gives the message held.
+#[no_mangle]
+pub extern "C" fn cpim_comes_back(m: CpimMessage, head: &[u8], body: &[u8]) -> bool
+    ensures condition { λ r. ⌜ ((o : Option Message) → Held (bothLent m (now (head .entry)) (now (body .entry))) o → r ≡ wholeHeld o) ⌝ }
+    ensures theorem { λ r. ⌜ (r ≡ true) ↔ ((k : Message) × Holds (bothLent m (now (head .entry)) (now (body .entry))) k × ReadsBack k) ⌝ }
+{
+    whole::comes_back(m, head, body)
+}
+
+// Where it does not: the clause of demand 3 that fails first, and for which entry.
+#[no_mangle]
+pub extern "C" fn cpim_loss(m: CpimMessage, head: &[u8], body: &[u8]) -> Loss
+    ensures { λ r. ⌜ ((o : Option Message) → Held (bothLent m (now (head .entry)) (now (body .entry))) o → r ≡ lossHeld o) ⌝ }
+{
+    whole::loss_of(m, head, body)
 }
 
 #[no_mangle]
