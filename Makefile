@@ -13,10 +13,11 @@ test: compare
 	@rt fmt --check
 	@rt ci
 
-# The leaves beside Rust's standard library and the source, and lists of calls beside the source.
+# The leaves beside Rust's standard library and the source; lists of calls, and texts read and written, beside the source.
 compare: cargo library calls
 	@cargo run --release --offline --quiet --manifest-path rust/Cargo.toml --bin compare
 	@cargo run --release --offline --quiet --manifest-path rust/Cargo.toml --bin calls
+	@cargo run --release --offline --quiet --manifest-path rust/Cargo.toml --bin texts
 
 # What the leaves cost, as ratios (docs/BENCHMARKS.md).
 bench: cargo library

@@ -1,20 +1,3 @@
-//! Links target/staticlib/libleaves.a; where it is not there yet it is proved and built first.
-
-use std::{path::Path, process::Command};
-
 fn main() {
-    let root = Path::new("../..");
-    let library = root.join("target/staticlib/libleaves.a");
-    if !library.exists() {
-        let built = Command::new("rt").args(["staticlib", "leaves"]).current_dir(root).status();
-        match built {
-            Ok(status) if status.success() => {}
-            Ok(status) => panic!("`rt staticlib leaves` failed ({status}): see target/log/leaves.out"),
-            Err(e) => panic!("{} is missing and `rt` cannot be run ({e}): install the Rattle toolchain, then run `rt staticlib leaves`", library.display()),
-        }
-    }
-    let folder = library.parent().unwrap().canonicalize().unwrap();
-    println!("cargo:rustc-link-search=native={}", folder.display());
-    println!("cargo:rustc-link-lib=static=leaves");
-    println!("cargo:rerun-if-changed={}", library.display());
+    common::link("leaves");
 }

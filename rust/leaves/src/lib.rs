@@ -1,7 +1,6 @@
 //! The leaves, proved in the crates that crates/leaves names, as safe functions. Each tests what the function asks for.
 
-mod random;
-pub use random::Random;
+pub use common::Random;
 
 mod raw {
     extern "C" {

@@ -51,7 +51,7 @@ pub fn short(c: &mut Compared, part: usize) {
 pub fn ends(c: &mut Compared, part: usize) {
     let mut random = Random::new(3_000 + part as u64);
     let letters: Vec<char> = inputs::EDGES.iter().map(|n| char::from_u32(*n).unwrap()).collect();
-    inputs::words(&letters, 3, (part, 256), |word| {
+    common::words(&letters, 3, (part, 256), |word| {
         let w: String = word.iter().collect();
         for text in [format!("{w}a"), format!("a{w}"), w] {
             trims(c, text.as_bytes());

@@ -53,14 +53,14 @@ pub fn short(c: &mut Compared, part: usize) {
 /// `\u` with up to four of the 22 digits and the plus (each code in every letter case): alone, among others, and with the last one
 /// behind the end of the text. Then with up to four of 19 characters, digits or not.
 pub fn codes(c: &mut Compared, part: usize) {
-    inputs::words(b"0123456789abcdefABCDEF+", 4, (part, 256), |digits| {
+    common::words(b"0123456789abcdefABCDEF+", 4, (part, 256), |digits| {
         let text = [b"\\u", digits].concat();
         reads_as(c, &text);
         reads_as(c, &text[..text.len() - 1]);
         reads_as(c, &[b"x", &text[..], digits, &text].concat());
     });
     let letters: Vec<char> = "+-09afgAFGxé \\u€\"\0_".chars().collect();
-    inputs::words(&letters, 4, (part, 256), |word| {
+    common::words(&letters, 4, (part, 256), |word| {
         let four: String = word.iter().collect();
         reads_as(c, format!("\\u{four}").as_bytes());
         reads_as(c, format!("\\{four}").as_bytes());
@@ -89,7 +89,7 @@ pub fn places(c: &mut Compared, part: usize) {
 
 /// Every text of up to seven of seven bytes that escapes are made of.
 pub fn words(c: &mut Compared, part: usize) {
-    inputs::words(b"\\u0+Dnx", 7, (part, 256), |s| both(c, s));
+    common::words(b"\\u0+Dnx", 7, (part, 256), |s| both(c, s));
 }
 
 /// Short strings and texts of what escapes are made of, and texts of any characters, whole and damaged.

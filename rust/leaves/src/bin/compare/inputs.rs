@@ -1,6 +1,6 @@
 //! Inputs for the comparison: characters at the edges of their classes, texts made of them, and damage to texts.
 
-use leaves::Random;
+use common::{words, Random};
 
 /// The first and last code points of the lengths and lead bytes of UTF-8, of white space and of the controls, and their neighbours.
 pub const EDGES: [u32; 64] = [
@@ -103,19 +103,7 @@ pub fn few_bytes(random: &mut Random, s: &mut Vec<u8>) {
     }
 }
 
-/// Every string of up to `most` letters, or the `part`-th of `parts` parts of them.
-pub fn words<T: Copy>(letters: &[T], most: u32, (part, parts): (usize, usize), mut each: impl FnMut(&[T])) {
-    let mut word = Vec::new();
-    for len in 0..=most {
-        for k in (part..letters.len().pow(len)).step_by(parts) {
-            word.clear();
-            word.extend((0..len).map(|i| letters[k / letters.len().pow(i) % letters.len()]));
-            each(&word);
-        }
-    }
-}
-
-/// All of them but the empty one.
+/// Every string of up to `most` letters but the empty one.
 pub fn patterns(letters: &[u8], most: u32) -> Vec<Vec<u8>> {
     let mut all = Vec::new();
     words(letters, most, (0, 1), |word| all.push(word.to_vec()));

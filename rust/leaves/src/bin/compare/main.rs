@@ -11,10 +11,8 @@ mod plain;
 mod search;
 mod utf8;
 
+use common::{exports, grouped, in_parts};
 use compared::{Compared, LEAVES};
-use std::sync::atomic::{AtomicUsize, Ordering};
-use std::sync::Mutex;
-use std::thread::{available_parallelism, scope};
 
 /// Each group has so many parts. The threads take the first part of each group, then the second of each, and so on.
 const PARTS: usize = 256;
@@ -49,44 +47,26 @@ const GROUPS: [Group; 21] = [
     ("all: long texts", long::texts),
 ];
 
-/// With a comma behind every three digits.
-fn grouped(n: u64) -> String {
-    if n < 1_000 {
-        return n.to_string();
-    }
-    format!("{},{:03}", grouped(n / 1_000), n % 1_000)
+const SOURCE: &str = include_str!(concat!(env!("CARGO_MANIFEST_DIR"), "/../../crates/leaves/src/lib.rt"));
+
+type Answers = [[u64; LEAVES.len()]; GROUPS.len()];
+
+fn add(sum: &mut [u64; LEAVES.len()], more: &[u64; LEAVES.len()]) {
+    sum.iter_mut().zip(more).for_each(|(a, b)| *a += b);
 }
 
-/// The names of the functions that crates/leaves exports.
-fn exports() -> impl Iterator<Item = &'static str> {
-    let source = include_str!(concat!(env!("CARGO_MANIFEST_DIR"), "/../../crates/leaves/src/lib.rt"));
-    source.lines().filter_map(|line| line.strip_prefix("pub extern \"C\" fn leaves_")?.split('(').next())
+fn part((c, answers): &mut (Compared, Answers), k: usize) {
+    let group = k % GROUPS.len();
+    c.answers.fill(0);
+    GROUPS[group].1(c, k / GROUPS.len());
+    add(&mut answers[group], &c.answers);
 }
 
 fn main() {
-    let next = AtomicUsize::new(0);
-    let answers = Mutex::new([[0_u64; LEAVES.len()]; GROUPS.len()]);
-    let work = || {
-        let mut c = Compared::new();
-        loop {
-            let k = next.fetch_add(1, Ordering::Relaxed);
-            let (part, group) = (k / GROUPS.len(), k % GROUPS.len());
-            if part >= PARTS {
-                break;
-            }
-            c.answers.fill(0);
-            GROUPS[group].1(&mut c, part);
-            for (sum, n) in answers.lock().unwrap()[group].iter_mut().zip(c.answers) {
-                *sum += n;
-            }
-        }
-    };
-    scope(|s| {
-        for _ in 0..available_parallelism().map_or(1, usize::from) {
-            s.spawn(work);
-        }
-    });
-    let answers = answers.into_inner().unwrap();
+    let mut answers: Answers = [[0; LEAVES.len()]; GROUPS.len()];
+    for (_, more) in in_parts(PARTS * GROUPS.len(), || (Compared::new(), answers), part) {
+        answers.iter_mut().zip(&more).for_each(|(sum, group)| add(sum, group));
+    }
     for ((name, _), group) in GROUPS.iter().zip(&answers) {
         println!("{name:<60}{:>15}", grouped(group.iter().sum()));
     }
@@ -96,7 +76,7 @@ fn main() {
         .collect();
     let listed: Vec<String> = by_leaf.iter().map(|(name, n)| format!("{name} {}", grouped(*n))).collect();
     println!("By function: {}.", listed.join(", "));
-    for name in exports() {
+    for name in exports(SOURCE, "leaves_") {
         if !by_leaf.iter().any(|(leaf, n)| leaf == name && *n > 0) {
             eprintln!("leaves_{name} is not compared");
             std::process::exit(1);

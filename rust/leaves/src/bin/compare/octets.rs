@@ -71,7 +71,7 @@ pub fn bytes(c: &mut Compared, part: usize) {
 pub fn words(c: &mut Compared, part: usize) {
     const LETTERS: &[u8] = b"aAzZ@[`{\x00\xFF";
     let words = inputs::patterns(LETTERS, 3);
-    inputs::words(LETTERS, 3, (part, 256), |a| {
+    common::words(LETTERS, 3, (part, 256), |a| {
         pair(c, a, &[]);
         for b in &words {
             pair(c, a, b);

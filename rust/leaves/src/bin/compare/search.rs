@@ -61,7 +61,7 @@ pub fn short(c: &mut Compared, part: usize) {
 /// Every text of up to nine of CR, LF and a letter, with every pattern of up to four.
 pub fn words(c: &mut Compared, part: usize) {
     let patterns = inputs::patterns(b"\r\nx", 4);
-    inputs::words(b"\r\nx", 9, (part, 256), |s| {
+    common::words(b"\r\nx", 9, (part, 256), |s| {
         for pattern in &patterns {
             finds(c, s, pattern);
         }

@@ -1,75 +1,29 @@
 //! Stores lent to both sides: what the call leaves here is held against what it must leave, byte by byte.
 
-use crate::call::{Call, Function::*, Lengths, Refusal, NOTHING_HELD};
-use crate::layout::{decode, layout, layout_alone, need, need_alone, record, record_alone};
-use crate::random::Random;
-use crate::raw::{self, Answer, HeaderRecord, Record};
+use crate::call::{Call, Function::*, Lengths};
+use crate::whole::{comes_back, loss};
+use common::Random;
+use cpim::exports::BY_CALLS;
+use cpim::layout::{decode, layout, layout_alone, need, need_alone, record, record_alone};
+use cpim::raw::{self, Answer, HeaderRecord, Loss, Record};
+use cpim::refusals::{Refusal, NOTHING_HELD};
+use cpim::store::Store;
 use source::cpim::{CpimHeader, CpimMessage};
 use std::fmt::Debug;
 use std::process::exit;
 
-/// How many bytes before and behind a lent store are watched.
-const MARGIN: usize = 64;
-
-/// A store as it is and as it must be.
-pub struct Store {
-    pub here: Vec<u8>,
-    pub there: Vec<u8>,
-}
-
-impl Store {
-    fn new(len: usize) -> Self {
-        let here = vec![0; len + 2 * MARGIN];
-        Store { there: here.clone(), here }
-    }
-
-    fn refill(&mut self, random: &mut Random) {
-        self.here.iter_mut().for_each(|b| *b = random.byte());
-        self.there.copy_from_slice(&self.here);
-    }
-
-    pub fn room(&self) -> usize {
-        self.here.len() - 2 * MARGIN
-    }
-
-    pub fn lent(&mut self, len: usize) -> &mut [u8] {
-        &mut self.here[MARGIN..][..len]
-    }
-
-    pub fn bytes(&self, len: usize) -> &[u8] {
-        &self.here[MARGIN..][..len]
-    }
-
-    /// Writes to both.
-    pub fn put(&mut self, at: usize, bytes: &[u8]) {
-        self.here[MARGIN + at..][..bytes.len()].copy_from_slice(bytes);
-        self.there[MARGIN + at..][..bytes.len()].copy_from_slice(bytes);
-    }
-
-    fn must(&mut self, bytes: &[u8]) {
-        self.there[MARGIN..][..bytes.len()].copy_from_slice(bytes);
-    }
-
-    /// The first places that differ, in what was lent and around it.
-    fn differences(&self, len: usize) -> Vec<isize> {
-        let end = len + 2 * MARGIN;
-        if self.here[..end] == self.there[..end] {
-            return Vec::new();
-        }
-        let places = (0..end).filter(|k| self.here[*k] != self.there[*k]);
-        places.map(|k| k as isize - MARGIN as isize).take(20).collect()
-    }
-}
-
-/// How often each answer was given: accepted (0), each number, 25 carrying 0 apart; and how often each function was called.
+/// How often each answer was given: accepted (0), each number, 25 carrying 0 apart; how often each function was called;
+/// by clause what was lost first (9 where nothing is held); and how many scripts were run.
 #[derive(Clone, Default)]
 pub struct Tally {
     pub answers: [u64; 27],
     pub nothing_held: u64,
-    pub functions: [u64; 17],
+    pub functions: [u64; BY_CALLS.len()],
+    pub losses: [u64; 10],
+    pub scripts: u64,
 }
 
-pub struct Bench {
+pub struct Stores {
     pub head: Store,
     pub body: Store,
     pub header_store: Store,
@@ -83,9 +37,9 @@ pub struct Bench {
     pub tally: Tally,
 }
 
-impl Bench {
+impl Stores {
     pub fn new(body: usize) -> Self {
-        Bench {
+        Stores {
             head: Store::new(251_000),
             body: Store::new(body),
             header_store: Store::new(4_600),
@@ -197,11 +151,7 @@ impl Bench {
             ("header store", &self.header_store, lengths.header, call.on_header() || call.function == AddObj),
         ];
         for (name, store, len, _) in lent.into_iter().filter(|l| l.3) {
-            let places = store.differences(len);
-            if !places.is_empty() {
-                let at = |k: &isize| (*k + MARGIN as isize) as usize;
-                let here: Vec<u8> = places.iter().map(|k| store.here[at(k)]).collect();
-                let there: Vec<u8> = places.iter().map(|k| store.there[at(k)]).collect();
+            if let Some((places, here, there)) = store.differences(len) {
                 self.differ(&format!("bytes {places:?} of the {name} of {len} bytes"), &here, &there);
             }
         }
@@ -221,10 +171,30 @@ impl Bench {
         }
     }
 
+    /// Whether it comes back whole, and what is lost first.
+    pub fn check_whole(&mut self) {
+        let (head, body) = (self.head.bytes(self.head.room()), self.body.bytes(self.body.room()));
+        let got = (raw::comes_back(self.record, head, body), raw::loss(self.record, head, body));
+        let want = match &self.message {
+            Some(m) => (comes_back(m), loss(m)),
+            None => (false, Loss { clause: 9, entry: 0 }),
+        };
+        if got != want {
+            self.differ("what comes back", &got, &want);
+        }
+        self.tally.losses[want.1.clause] += 1;
+    }
+
+    pub fn same<T: PartialEq + Debug>(&self, what: &str, here: &T, there: &T) {
+        if here != there {
+            self.differ(what, here, there);
+        }
+    }
+
     /// No byte differs anywhere, lent or not.
     pub fn finish(&self) {
         for store in [&self.head, &self.body, &self.header_store] {
-            if store.here != store.there {
+            if !store.is_as_it_must() {
                 self.differ("bytes that were not lent", &store.differences(store.room()), &"none");
             }
         }

@@ -1,26 +1,29 @@
 //! A call with its arguments, and what document 01 makes of the source's answer to it.
 
-use crate::layout::{need, need_alone};
-use source::cpim::{CpimError, CpimHeader, CpimMessage};
-use std::str::from_utf8;
+use cpim::layout::{need, need_alone};
+use cpim::refusals::{number, text, Refusal, NOTHING_HELD};
+use source::cpim::{CpimHeader, CpimMessage};
 
-macro_rules! calls {
-    ($($name:ident $symbol:ident),* $(,)?) => {
-        #[derive(Clone, Copy, Debug, PartialEq)]
-        pub enum Function {
-            $($name),*
-        }
-
-        /// The functions of crates/cpim/src/lib.rt, by their names there behind `cpim_`.
-        pub const FUNCTIONS: &[(Function, &str)] = &[$((Function::$name, stringify!($symbol))),*];
-    };
-}
-
-calls! {
-    New new, SetBody set_body, SetHeader set_header, AddHeader add_header, AddContent add_content_header,
-    AddObj add_header_obj, From with_from, To with_to, DateTime with_datetime, Subject with_subject, Cc with_cc,
-    Require with_require, SubjectLang with_subject_lang, Ns with_ns, WithContent with_content_header,
-    HeaderNew header_new, WithParam header_with_param,
+/// The functions in the order of `BY_CALLS`.
+#[derive(Clone, Copy, Debug, PartialEq)]
+pub enum Function {
+    New,
+    SetBody,
+    SetHeader,
+    AddHeader,
+    AddContent,
+    AddObj,
+    From,
+    To,
+    DateTime,
+    Subject,
+    Cc,
+    Require,
+    SubjectLang,
+    Ns,
+    WithContent,
+    HeaderNew,
+    WithParam,
 }
 
 use Function::*;
@@ -31,42 +34,6 @@ pub struct Call {
     pub function: Function,
     pub first: Vec<u8>,
     pub second: Vec<u8>,
-}
-
-/// The number of a refusal, and the number that it carries.
-pub type Refusal = (u64, u64);
-
-pub const NOTHING_HELD: Refusal = (25, 0);
-
-/// The table of document 01.
-fn number(e: CpimError) -> Refusal {
-    use CpimError::*;
-    let carrying = |number, actual: usize| (number, actual as u64);
-    match e {
-        InvalidHeaderName(why) if why == "empty name" => (6, 0),
-        HeaderNameTooLong { actual, .. } => carrying(7, actual),
-        InvalidHeaderName(why) if why == "contains control characters" => (8, 0),
-        InvalidHeaderName(why) if why == "contains invalid characters" => (9, 0),
-        HeaderValueTooLong { actual, .. } => carrying(10, actual),
-        InvalidHeaderValue(_) => (11, 0),
-        InvalidParamName(why) if why == "empty name" => (12, 0),
-        ParamNameTooLong { actual, .. } => carrying(13, actual),
-        InvalidParamName(_) => (14, 0),
-        ParamValueTooLong { actual, .. } => carrying(15, actual),
-        InvalidParamValue(_) => (16, 0),
-        InvalidContentType(why) if why == "empty content type" => (17, 0),
-        ContentTypeTooLong { actual, .. } => carrying(18, actual),
-        InvalidContentType(_) => (19, 0),
-        TooManyHeaders { actual, .. } => carrying(20, actual),
-        TooManyParams { actual, .. } => carrying(21, actual),
-        TooManyContentHeaders { actual, .. } => carrying(22, actual),
-        BodyTooLarge { actual, .. } => carrying(23, actual),
-        e => panic!("no call gives {e}"),
-    }
-}
-
-fn text(s: &[u8]) -> Result<&str, Refusal> {
-    from_utf8(s).map_err(|_| (24, 0))
 }
 
 /// The lengths of the stores lent to a call.

@@ -1,11 +1,11 @@
 //! Stores and records with something altered: a call answers by what they then hold, or with 25 carrying 0, and changes no byte.
 
-use crate::bench::Bench;
 use crate::call::{Call, Lengths};
-use crate::layout::{held, held_alone, need, need_alone};
-use crate::random::Random;
-use crate::raw::{HeaderRecord, Record};
 use crate::samples::{battery, header_battery, samples};
+use crate::stores::Stores;
+use common::Random;
+use cpim::layout::{held, held_alone, need, need_alone};
+use cpim::raw::{HeaderRecord, Record};
 
 /// The work in parts of about the same size; each part takes every so manieth alteration.
 pub const PARTS: usize = 32;
@@ -61,27 +61,27 @@ struct Altered {
 }
 
 impl Sample {
-    fn build(bench: &mut Bench, calls: &[Call]) -> Self {
-        bench.refill(3);
-        bench.begin();
-        let all = Lengths { head: bench.head.room(), body: bench.body.room(), header: bench.header_store.room() };
+    fn build(stores: &mut Stores, calls: &[Call]) -> Self {
+        stores.refill(3);
+        stores.begin();
+        let all = Lengths { head: stores.head.room(), body: stores.body.room(), header: stores.header_store.room() };
         for call in calls {
             if call.on_header() {
-                let after = bench.header_after(call);
-                bench.run_header(call, after, all);
+                let after = stores.header_after(call);
+                stores.run_header(call, after, all);
             } else {
-                let after = bench.after(call);
-                bench.run(call, after, all);
+                let after = stores.after(call);
+                stores.run(call, after, all);
             }
         }
-        let need = need(bench.message.as_ref().unwrap());
-        let header_need = need_alone(bench.header.as_ref().unwrap());
+        let need = need(stores.message.as_ref().unwrap());
+        let header_need = need_alone(stores.header.as_ref().unwrap());
         Sample {
-            record: bench.record,
-            header: bench.header_record,
-            head: bench.head.bytes(need + 600).to_vec(),
-            body: bench.body.bytes(64).to_vec(),
-            store: bench.header_store.bytes(header_need + 600).to_vec(),
+            record: stores.record,
+            header: stores.header_record,
+            head: stores.head.bytes(need + 600).to_vec(),
+            body: stores.body.bytes(64).to_vec(),
+            store: stores.header_store.bytes(header_need + 600).to_vec(),
             need,
             header_need,
         }
@@ -93,30 +93,30 @@ impl Sample {
         Altered { record: self.record, header: self.header, head: Vec::new(), store: Vec::new(), lengths }
     }
 
-    fn run(&self, bench: &mut Bench, altered: &Altered, call: &Call) {
-        bench.begin();
-        bench.note = format!("{altered:?}");
-        bench.head.put(0, &self.head);
-        bench.body.put(0, &self.body);
-        bench.header_store.put(0, &self.store);
+    fn run(&self, stores: &mut Stores, altered: &Altered, call: &Call) {
+        stores.begin();
+        stores.note = format!("{altered:?}");
+        stores.head.put(0, &self.head);
+        stores.body.put(0, &self.body);
+        stores.header_store.put(0, &self.store);
         for (at, b) in &altered.head {
-            bench.head.put(*at, &[*b]);
+            stores.head.put(*at, &[*b]);
         }
         for (at, b) in &altered.store {
-            bench.header_store.put(*at, &[*b]);
+            stores.header_store.put(*at, &[*b]);
         }
         let lengths = altered.lengths;
-        bench.record = altered.record;
-        bench.header_record = altered.header;
-        let body = call.takes_body().then(|| bench.body.bytes(lengths.body));
-        bench.message = held(altered.record, bench.head.bytes(lengths.head), body);
-        bench.header = held_alone(altered.header, bench.header_store.bytes(lengths.header));
+        stores.record = altered.record;
+        stores.header_record = altered.header;
+        let body = call.takes_body().then(|| stores.body.bytes(lengths.body));
+        stores.message = held(altered.record, stores.head.bytes(lengths.head), body);
+        stores.header = held_alone(altered.header, stores.header_store.bytes(lengths.header));
         if call.on_header() {
-            let after = bench.header_after(call);
-            bench.run_header(call, after, lengths);
+            let after = stores.header_after(call);
+            stores.run_header(call, after, lengths);
         } else {
-            let after = bench.after(call);
-            bench.run(call, after, lengths);
+            let after = stores.after(call);
+            stores.run(call, after, lengths);
         }
     }
 }
@@ -138,14 +138,6 @@ fn numbers(n: usize) -> Vec<usize> {
     all
 }
 
-fn fields(r: &mut Record) -> [&mut usize; 6] {
-    [&mut r.typelen, &mut r.headers, &mut r.headerlen, &mut r.contents, &mut r.contentlen, &mut r.bodylen]
-}
-
-fn header_fields(r: &mut HeaderRecord) -> [&mut usize; 3] {
-    [&mut r.valuelen, &mut r.params, &mut r.size]
-}
-
 /// Every alteration of the message, in order.
 fn message_altered(s: &Sample, random: &mut Random) -> Vec<Altered> {
     let mut all = vec![s.whole()];
@@ -160,9 +152,9 @@ fn message_altered(s: &Sample, random: &mut Random) -> Vec<Altered> {
     }
     for k in 0..6 {
         let mut r = s.record;
-        for n in numbers(*fields(&mut r)[k]) {
+        for n in numbers(*r.fields()[k]) {
             let mut record = s.record;
-            *fields(&mut record)[k] = n;
+            *record.fields()[k] = n;
             all.push(Altered { record, ..s.whole() });
         }
     }
@@ -189,7 +181,7 @@ fn message_altered(s: &Sample, random: &mut Random) -> Vec<Altered> {
         }
         if random.once_in(2) {
             let field = random.below(6);
-            let n = &mut *fields(&mut altered.record)[field];
+            let n = &mut *altered.record.fields()[field];
             *n = random.pick(&[n.wrapping_add(1), n.wrapping_sub(1)]);
         }
         all.push(altered);
@@ -208,15 +200,15 @@ fn header_altered(s: &Sample, random: &mut Random) -> Vec<Altered> {
     }
     for k in 0..3 {
         let mut r = s.header;
-        for n in numbers(*header_fields(&mut r)[k]) {
+        for n in numbers(*r.fields()[k]) {
             let mut header = s.header;
-            *header_fields(&mut header)[k] = n;
+            *header.fields()[k] = n;
             all.push(Altered { header, ..s.whole() });
         }
     }
     for _ in 0..6_000 {
         let mut altered = s.whole();
-        for n in header_fields(&mut altered.header) {
+        for n in altered.header.fields() {
             *n = random.pick(&[*n, *n, n.wrapping_add(1), n.wrapping_sub(1)]);
         }
         let at = random.below(s.header_need + 1);
@@ -227,16 +219,16 @@ fn header_altered(s: &Sample, random: &mut Random) -> Vec<Altered> {
     all
 }
 
-pub fn part(bench: &mut Bench, part: usize) {
+pub fn part(stores: &mut Stores, part: usize) {
     for calls in samples() {
         let mut random = Random::new(11);
-        let s = Sample::build(bench, &calls);
+        let s = Sample::build(stores, &calls);
         for altered in message_altered(&s, &mut random).iter().skip(part).step_by(PARTS) {
-            battery().iter().for_each(|call| s.run(bench, altered, call));
+            battery().iter().for_each(|call| s.run(stores, altered, call));
         }
         for altered in header_altered(&s, &mut random).iter().skip(part).step_by(PARTS) {
-            header_battery().iter().for_each(|call| s.run(bench, altered, call));
+            header_battery().iter().for_each(|call| s.run(stores, altered, call));
         }
-        bench.note.clear();
+        stores.note.clear();
     }
 }

@@ -1,12 +1,15 @@
 //! Names and values: plain ones, those at and around every limit, and those that are refused.
 
-use crate::random::Random;
+use common::Random;
 
 /// At every limit, one below and one above.
 const LENGTHS: [usize; 14] = [0, 1, 63, 64, 65, 127, 128, 129, 255, 256, 257, 1023, 1024, 1025];
 
 /// Names that meet: of the wrappers, in other cases, prefixes of each other, equal but for a last byte.
-const NAMES: [&str; 40] = [
+const NAMES: [&str; 43] = [
+    "Content-type",
+    "CONTENT-TYPE",
+    "Content-typ",
     "From",
     "To",
     "DateTime",
@@ -110,7 +113,7 @@ pub fn text_of(random: &mut Random, len: usize) -> Vec<u8> {
     let mut s = String::new();
     if random.once_in(2) {
         let c = random.pick(&['a', 'b', 'q']);
-        s.extend(std::iter::repeat(c).take(len));
+        s.extend(std::iter::repeat_n(c, len));
     }
     while s.len() < len {
         let c = random.pick(&CHARACTERS);

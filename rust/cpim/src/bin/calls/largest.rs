@@ -1,14 +1,14 @@
 //! The longest body, the largest message, and one more.
 
-use crate::bench::Bench;
 use crate::call::{Call, Function::*, Lengths};
 use crate::lists::{step, Room};
-use crate::random::Random;
 use crate::random_calls::any;
-use crate::texts::Kind;
+use crate::stores::Stores;
+use common::Random;
+use cpim::names::Kind;
 
 /// Bodies at the limit and one past it.
-fn bodies(bench: &mut Bench) {
+fn bodies(stores: &mut Stores) {
     const MOST: usize = 10_485_760;
     let mut random = Random::new(7);
     let body: Vec<u8> = (0..MOST + 1).map(|_| random.byte()).collect();
@@ -34,21 +34,21 @@ fn bodies(bench: &mut Bench) {
         (set(0), MOST - 1),
         (set(0), 0),
     ] {
-        step(&mut random, bench, &call, Room::Fixed(Lengths { body: len, ..enough }));
+        step(&mut random, stores, &call, Room::Fixed(Lengths { body: len, ..enough }));
         let other = any(&mut random, kind, &[AddHeader]);
-        step(&mut random, bench, &other, Room::Fixed(enough));
+        step(&mut random, stores, &other, Room::Fixed(enough));
     }
 }
 
 /// The largest message: 50 headers of 10 parameters each and 20 content headers, all of the greatest lengths.
-fn largest(bench: &mut Bench) {
+fn largest(stores: &mut Stores) {
     const NEED: usize = 250_016;
     let mut random = Random::new(8);
     let text = |k: usize, len: usize| format!("{k:02}{}", "é".repeat(len / 2 - 1)).into_bytes();
     let all = Lengths { head: NEED, body: 0, header: 4_400 };
     let short = Lengths { head: NEED - 1, ..all };
     let mut run = |function, first, second, lengths| {
-        step(&mut random, bench, &Call { function, first, second }, Room::Fixed(lengths));
+        step(&mut random, stores, &Call { function, first, second }, Room::Fixed(lengths));
     };
     run(New, text(0, 256), Vec::new(), all);
     run(HeaderNew, text(0, 1024), Vec::new(), all);
@@ -70,13 +70,13 @@ fn largest(bench: &mut Bench) {
     run(From, b"x".to_vec(), Vec::new(), all);
 }
 
-/// On a bench with room for the longest body.
-pub fn run(bench: &mut Bench) {
+/// On a stores with room for the longest body.
+pub fn run(stores: &mut Stores) {
     for list in [bodies, largest] {
-        bench.refill(1);
-        bench.begin();
-        list(bench);
-        bench.finish();
+        stores.refill(1);
+        stores.begin();
+        list(stores);
+        stores.finish();
     }
-    assert!(bench.list.iter().any(|(_, _, answer)| *answer == (25, 250_016)), "the largest need was not met");
+    assert!(stores.list.iter().any(|(_, _, answer)| *answer == (25, 250_016)), "the largest need was not met");
 }

@@ -1,0 +1,25 @@
+//! What the programs that compare with Rust have in common.
+
+mod link;
+mod random;
+mod words;
+mod work;
+
+pub use link::link;
+pub use random::Random;
+pub use words::words;
+pub use work::in_parts;
+
+/// With a comma behind every three digits.
+pub fn grouped(n: u64) -> String {
+    if n < 1_000 {
+        return n.to_string();
+    }
+    format!("{},{:03}", grouped(n / 1_000), n % 1_000)
+}
+
+/// The names, behind their prefix, of the C functions that a crate's `src/lib.rt` exports.
+pub fn exports<'a>(source: &'a str, prefix: &'a str) -> impl Iterator<Item = &'a str> {
+    let names = source.lines().filter_map(|line| line.strip_prefix("pub extern \"C\" fn ")?.split('(').next());
+    names.map(move |name| name.strip_prefix(prefix).unwrap_or(name))
+}

@@ -1,0 +1,88 @@
+//! Lists of calls on a message and a header in lent stores beside the source. Prints how many calls were accepted and how often
+//! each refusal came; the first difference ends it with a failure and the list of calls.
+
+mod call;
+mod damaged;
+mod largest;
+mod lists;
+mod random_calls;
+mod samples;
+mod scripts;
+mod stores;
+mod whole;
+
+use common::{grouped, in_parts};
+use cpim::exports::{all_compared, BY_CALLS, BY_LISTS};
+use std::process::exit;
+use stores::{Stores, Tally};
+
+const PARTS: usize = 128;
+const LISTS: usize = 80;
+const SCRIPTS: usize = 40;
+
+fn add(sum: &mut Tally, t: &Tally) {
+    sum.answers.iter_mut().zip(t.answers).for_each(|(a, b)| *a += b);
+    sum.functions.iter_mut().zip(t.functions).for_each(|(a, b)| *a += b);
+    sum.losses.iter_mut().zip(t.losses).for_each(|(a, b)| *a += b);
+    sum.nothing_held += t.nothing_held;
+    sum.scripts += t.scripts;
+}
+
+/// What a thread lends, and what it counted: in lists, and on what was damaged.
+struct Worker {
+    stores: Stores,
+    lists: Tally,
+    damaged: Tally,
+}
+
+fn part(w: &mut Worker, part: usize) {
+    let run = |sum: &mut Tally, stores: &mut Stores, of: &dyn Fn(&mut Stores)| {
+        stores.tally = Tally::default();
+        of(stores);
+        add(sum, &stores.tally);
+    };
+    if part == 0 {
+        return run(&mut w.lists, &mut Stores::new(10_485_761), &largest::run);
+    }
+    run(&mut w.lists, &mut w.stores, &|stores| lists::part(stores, part, LISTS));
+    run(&mut w.lists, &mut w.stores, &|stores| scripts::part(stores, part, SCRIPTS));
+    if part <= damaged::PARTS {
+        run(&mut w.damaged, &mut w.stores, &|stores| damaged::part(stores, part - 1));
+    }
+}
+
+fn print(name: &str, t: &Tally) {
+    let refused: u64 = t.answers[1..].iter().sum::<u64>() + t.nothing_held;
+    println!("{name}: {} calls, {} accepted", grouped(t.answers[0] + refused), grouped(t.answers[0]));
+}
+
+fn main() {
+    let make = || Worker { stores: Stores::new(8_192), lists: Tally::default(), damaged: Tally::default() };
+    let (mut lists, mut damaged) = (Tally::default(), Tally::default());
+    for w in in_parts(PARTS + 1, make, part) {
+        add(&mut lists, &w.lists);
+        add(&mut damaged, &w.damaged);
+    }
+    print("Lists of calls", &lists);
+    print("Calls on damaged stores and records", &damaged);
+    let mut all = lists.clone();
+    add(&mut all, &damaged);
+    let refusals: Vec<String> = (6..=26).map(|k| format!("{k}: {}", grouped(all.answers[k]))).collect();
+    println!("By refusal: {}; 25 carrying 0: {}.", refusals.join(", "), grouped(all.nothing_held));
+    if lists.answers[6..].contains(&0) || lists.nothing_held == 0 {
+        eprintln!("a refusal was never seen in the lists: {:?}", lists.answers);
+        exit(1);
+    }
+    let [whole, lost @ .., nothing] = lists.losses.map(grouped);
+    println!("Come back whole: {whole}; lost first, by clause 1 to 8: {}; nothing held: {nothing}.", lost.join(", "));
+    println!("Scripts: {}.", grouped(lists.scripts));
+    if lists.losses.contains(&0) {
+        eprintln!("a clause never failed first: {:?}", lists.losses);
+        exit(1);
+    }
+    all_compared(BY_CALLS, |k| lists.functions[k]);
+    let asked = lists.losses.iter().sum();
+    all_compared(BY_LISTS, |k| [asked, asked, lists.scripts][k]);
+    let calls: u64 = all.functions.iter().sum();
+    println!("The calls beside Rust: {} calls, no difference", grouped(calls));
+}

@@ -1,0 +1,198 @@
+//! Reading held against what it must answer and leave, and counted.
+
+use crate::expected::Reading;
+use crate::pattern::Pattern;
+use crate::tally::Tally;
+use common::Random;
+use cpim::layout::{layout, record};
+use cpim::raw::{self, Answer, Record};
+use cpim::store::Store;
+use std::fmt::Debug;
+use std::process::exit;
+
+/// Texts of more bytes than this are lent fewer lengths.
+pub const MANY: usize = 1 << 20;
+
+/// How many lengths of one kind are lent.
+pub fn few(text: &[u8]) -> usize {
+    if text.len() > MANY {
+        2
+    } else {
+        4
+    }
+}
+
+pub struct Compared {
+    pub tally: Tally,
+    pub head: Store,
+    pub body: Store,
+    pub out: Store,
+    pub pattern: Pattern,
+    pub random: Random,
+}
+
+/// Bytes as a text, shortened where they are very many.
+fn shown(s: &[u8]) -> String {
+    match s.get(..20_000) {
+        Some(start) => format!("\"{}\"... ({} bytes)", start.escape_ascii(), s.len()),
+        None => format!("\"{}\"", s.escape_ascii()),
+    }
+}
+
+#[cold]
+pub fn differ(what: &str, input: &dyn Debug, text: &[u8], here: &dyn Debug, rust: &dyn Debug) -> ! {
+    eprintln!(
+        "{what} differs from the source.\ntext: {}\nwith: {input:?}\nhere: {here:?}\nRust: {rust:?}",
+        shown(text)
+    );
+    exit(1)
+}
+
+fn unchanged(lent: &Store, text: &[u8]) {
+    if let Some((places, here, there)) = lent.differences(text.len()) {
+        differ(&format!("The text or what lies around it, at {places:?},"), &"any stores", text, &here, &there);
+    }
+}
+
+impl Compared {
+    /// With bodies and outputs of up to so many bytes.
+    pub fn new(body: usize, out: usize) -> Self {
+        let mut random = Random::new(1);
+        let most = body.max(out).max(300_000);
+        let mut c = Compared {
+            tally: Tally::default(),
+            head: Store::new(260_000),
+            body: Store::new(body),
+            out: Store::new(out),
+            pattern: Pattern::new(&mut random, most),
+            random: Random::new(2),
+        };
+        for store in [&mut c.head, &mut c.body, &mut c.out] {
+            store.refill(&mut random);
+        }
+        c
+    }
+
+    /// All that depends on one text. What comes of `random` is the same for the same text and seed.
+    pub fn text(&mut self, text: &[u8], seed: u64) {
+        self.random = Random::new(seed);
+        let lent = self.lend(text);
+        let text = lent.bytes(text.len());
+        let reading = Reading::of(text);
+        for (head, body) in self.lengths(&reading, text.len() > MANY) {
+            self.read(text, &reading, head, body);
+        }
+        let len = reading.body.as_ref().map_or(0, Vec::len);
+        for buffer in [len, len.saturating_sub(1), len + self.random.below(30), 0].into_iter().take(few(text)) {
+            self.read_body(text, &reading, buffer);
+        }
+        if let Ok(m) = &reading.answer {
+            let written = m.to_string().expect("the text of a message that was read");
+            self.write(text, &reading, written.as_bytes());
+            let again = self.lend(written.as_bytes());
+            self.again(again.bytes(written.len()));
+            unchanged(&again, written.as_bytes());
+        }
+        unchanged(&lent, text);
+    }
+
+    /// Reads a text that was written.
+    fn again(&mut self, text: &[u8]) {
+        let reading = Reading::of(text);
+        let need = reading.peaks.last().copied().unwrap_or(256);
+        let body = reading.body.as_ref().map_or(0, Vec::len);
+        let lengths = [(need, body), (need - 1, body), (need + self.random.below(9), body + 5)];
+        for (head, body) in lengths.into_iter().take(few(text)) {
+            self.read(text, &reading, head, body);
+        }
+    }
+
+    /// A text with watched bytes around it.
+    fn lend(&mut self, text: &[u8]) -> Store {
+        let mut store = Store::new(text.len());
+        store.refill(&mut self.random);
+        store.put(0, text);
+        store
+    }
+
+    /// Stores with room to spare, with exactly what is needed, with less, and next to each limit that is judged.
+    fn lengths(&mut self, reading: &Reading, many: bool) -> Vec<(usize, usize)> {
+        let random = &mut self.random;
+        let body = reading.body.as_ref().map_or(0, Vec::len);
+        let Some(need) = reading.peaks.last().copied() else {
+            return vec![(256 + random.below(100), body + random.below(20)), (random.below(257), 0)];
+        };
+        if many {
+            return vec![(need, body), (need - 1, body), (need + 9, body.saturating_sub(1))];
+        }
+        let peak = random.pick(&reading.peaks);
+        let mut all = vec![
+            (need + random.below(100), body + random.below(20)),
+            (need, body),
+            (need - 1, body),
+            (255, body),
+            (random.below(256), random.below(4)),
+            (0, 0),
+        ];
+        if reading.peaks.len() > 1 {
+            all.extend([(256, body), (peak, body + 1), (peak - 1, body), (random.below(need), random.below(body + 1))]);
+        }
+        if body > 0 {
+            all.extend([(need, body - 1), (need + 1, 0), (need - 1, body - 1)]);
+        }
+        all
+    }
+
+    pub fn read(&mut self, text: &[u8], reading: &Reading, head: usize, body: usize) -> Record {
+        self.pattern.lay(&mut self.head, head);
+        self.pattern.lay(&mut self.body, body);
+        let expected = reading.with(head, body);
+        let got = raw::parse(text, self.head.lent(head), self.body.lent(body));
+        let want = match expected {
+            Ok(m) => {
+                let bytes = layout(m);
+                self.head.must(&bytes);
+                self.head.free(bytes.len(), head);
+                self.body.must(m.body());
+                Answer { number: 0, carried: 0, record: record(m) }
+            }
+            Err((number, carried)) => {
+                self.head.must_be_zero(head);
+                self.body.must_be_zero(body);
+                Answer { number, carried, record: Record::default() }
+            }
+        };
+        self.tally.read[want.number as usize] += 1;
+        let lengths = ("head store", head, "body store", body);
+        if got != want {
+            differ("Reading", &lengths, text, &got, &want);
+        }
+        for (name, store, len) in [("head", &self.head, head), ("body", &self.body, body)] {
+            if let Some((places, here, there)) = store.differences(len) {
+                differ(&format!("The {name} store at {places:?}"), &lengths, text, &here, &there);
+            }
+        }
+        got.record
+    }
+
+    fn read_body(&mut self, text: &[u8], reading: &Reading, buffer: usize) {
+        self.pattern.lay(&mut self.body, buffer);
+        let got = raw::read_body(text, self.body.lent(buffer));
+        let want = match reading.body_with(buffer) {
+            Ok(body) => {
+                if reading.joined {
+                    self.body.must(body);
+                }
+                Answer { number: 0, carried: 0, record: body.len() }
+            }
+            Err((number, carried)) => Answer { number, carried, record: 0 },
+        };
+        self.tally.bodies[want.number as usize] += 1;
+        if got != want {
+            differ("The body without a store", &buffer, text, &got, &want);
+        }
+        if let Some((places, here, there)) = self.body.differences(buffer) {
+            differ(&format!("The buffer at {places:?}"), &buffer, text, &here, &there);
+        }
+    }
+}

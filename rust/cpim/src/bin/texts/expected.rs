@@ -1,0 +1,129 @@
+//! What reading must answer, reckoned from the source: its answer with room for everything, and the room needed at each line.
+
+use cpim::layout::need;
+use cpim::refusals::{number, text, Refusal};
+use source::cpim::{parse_cpim, CpimMessage};
+use std::collections::BTreeMap;
+
+pub const MOST_TEXT: usize = 20_971_520;
+pub const MOST_BODY: usize = 10_485_760;
+const CRLFCRLF: &str = "\r\n\r\n";
+const LFLF: &str = "\n\n";
+
+pub struct Reading {
+    /// What the source answers; 1 and 24 come before it.
+    pub answer: Result<CpimMessage, Refusal>,
+    /// The room needed at the start and after each line that needs more than all before; none where no line is read.
+    pub peaks: Vec<usize>,
+    /// The body without a store; `joined` where it is written to the buffer.
+    pub body: Result<Vec<u8>, Refusal>,
+    pub joined: bool,
+}
+
+impl Reading {
+    pub fn of(bytes: &[u8]) -> Self {
+        let refused = |e| Reading { answer: Err(e), peaks: Vec::new(), body: Err(e), joined: false };
+        if bytes.len() > MOST_TEXT {
+            return refused((1, bytes.len() as u64));
+        }
+        let input = match text(bytes) {
+            Ok(input) => input,
+            Err(e) => return refused(e),
+        };
+        let separator = if input.contains(CRLFCRLF) { CRLFCRLF } else { LFLF };
+        let answer = parse_cpim(input).map_err(number);
+        let sections: Vec<&str> = input.splitn(4, separator).collect();
+        let [_, headers, contents, rest] = sections[..] else { return refused(answer.unwrap_err()) };
+        let body = rest.split(separator).collect::<Vec<_>>().join(CRLFCRLF).into_bytes();
+        let mut peaks = Vec::new();
+        if answer.as_ref().err() != Some(&(3, 0)) {
+            let mut room = Room { need: 256, peaks: vec![256], headers: 0, contents: BTreeMap::new() };
+            let stopped = room.lines(headers, contents).err();
+            room.agrees(&answer, stopped, &body);
+            peaks = room.peaks;
+        }
+        let body = if body.len() > MOST_BODY { Err((23, body.len() as u64)) } else { Ok(body) };
+        Reading { answer, peaks, body, joined: separator == LFLF }
+    }
+
+    /// What must be answered with stores of these lengths.
+    pub fn with(&self, head: usize, body: usize) -> Result<&CpimMessage, Refusal> {
+        if let Some(peak) = self.peaks.iter().find(|peak| **peak > head) {
+            return Err((25, *peak as u64));
+        }
+        let m = self.answer.as_ref().map_err(|e| *e)?;
+        if m.body().len() > body {
+            return Err((26, m.body().len() as u64));
+        }
+        Ok(m)
+    }
+
+    /// What the body without a store must be.
+    pub fn body_with(&self, buffer: usize) -> Result<&[u8], Refusal> {
+        let body = self.body.as_ref().map_err(|e| *e)?;
+        if self.joined && body.len() > buffer {
+            return Err((26, body.len() as u64));
+        }
+        Ok(body)
+    }
+}
+
+/// The room that the lines need, each read by the source by itself.
+struct Room {
+    need: usize,
+    peaks: Vec<usize>,
+    headers: usize,
+    contents: BTreeMap<String, usize>,
+}
+
+impl Room {
+    fn lines(&mut self, headers: &str, contents: &str) -> Result<(), Refusal> {
+        for (first, line) in lines(headers) {
+            let m = alone(&format!("message/cpim{CRLFCRLF}{first}{line}{CRLFCRLF}{CRLFCRLF}"))?;
+            if self.headers == 50 {
+                return Err((20, 51));
+            }
+            self.headers += 1;
+            self.grow(need(&m) - 256, 0);
+        }
+        for (first, line) in lines(contents) {
+            let m = alone(&format!("message/cpim{CRLFCRLF}{CRLFCRLF}{first}{line}{CRLFCRLF}"))?;
+            let Some(name) = m.content_headers().keys().next() else { continue };
+            if self.contents.len() == 20 {
+                return Err((22, 21));
+            }
+            let more = need(&m) - 256;
+            let less = self.contents.insert(name.to_string(), more);
+            self.grow(more, less.unwrap_or(0));
+        }
+        Ok(())
+    }
+
+    fn grow(&mut self, more: usize, less: usize) {
+        self.need = self.need + more - less;
+        if self.need > *self.peaks.last().unwrap() {
+            self.peaks.push(self.need);
+        }
+    }
+
+    /// The lines one by one come to what the source makes of the whole text.
+    fn agrees(&self, answer: &Result<CpimMessage, Refusal>, stopped: Option<Refusal>, body: &[u8]) {
+        match answer {
+            Ok(m) => {
+                assert!(stopped.is_none() && need(m) == self.need && m.body() == body, "lines of an accepted text")
+            }
+            Err((23, n)) => assert!(stopped.is_none() && *n == body.len() as u64, "lines of a text with a long body"),
+            Err(e) => assert_eq!(stopped, Some(*e), "the line that is refused"),
+        }
+    }
+}
+
+/// The lines of a section that are not empty. Where they end in CRLF one comes first, so that a line alone is cut in the same way.
+fn lines(section: &str) -> impl Iterator<Item = (&'static str, &str)> {
+    let (end, first) = if section.contains("\r\n") { ("\r\n", "\r\n") } else { ("\n", "") };
+    section.split(end).filter(|line| !line.is_empty()).map(move |line| (first, line))
+}
+
+fn alone(text: &str) -> Result<CpimMessage, Refusal> {
+    parse_cpim(text).map_err(number)
+}

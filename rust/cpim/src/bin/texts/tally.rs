@@ -1,0 +1,29 @@
+//! How often each answer was seen.
+
+use cpim::exports::BY_TEXTS;
+
+/// How often each answer was given by reading and by the body without a store: accepted (0) and each number; by writing: accepted,
+/// 25 carrying 0, 26.
+#[derive(Clone, Default)]
+pub struct Tally {
+    pub read: [u64; 27],
+    pub bodies: [u64; 27],
+    pub written: [u64; 3],
+}
+
+impl Tally {
+    pub fn add(&mut self, t: &Tally) {
+        self.read.iter_mut().zip(t.read).for_each(|(a, b)| *a += b);
+        self.bodies.iter_mut().zip(t.bodies).for_each(|(a, b)| *a += b);
+        self.written.iter_mut().zip(t.written).for_each(|(a, b)| *a += b);
+    }
+
+    /// How many answers each function of `BY_TEXTS` gave.
+    pub fn by_function(&self) -> [u64; BY_TEXTS.len()] {
+        [self.read.iter().sum(), self.bodies.iter().sum(), self.written.iter().sum()]
+    }
+
+    pub fn all(&self) -> u64 {
+        self.by_function().iter().sum()
+    }
+}
