@@ -1,5 +1,6 @@
-// What others link: the calls on a message and on a header alone as C functions on byte slices and numbers, each with the contract of the
-// function that it passes on. A slice crosses as its place and its length, a record as its numbers in the order of crates/format/src/lib.rt.
+// What others link: reading, writing, the calls on a message and on a header alone, and what comes back, as C functions on byte slices and
+// numbers, each with the contract of the function that it passes on. A slice crosses as its place and its length, a record as its numbers in
+// the order in which crates/format, text_parts and whole declare it. What is lent to be written must overlap nothing else that is lent.
 
 use format::Answer;
 use format::CpimHeader;
@@ -9,8 +10,6 @@ use format::Numbers;
 use text_parts::BodyAnswer;
 use whole::Loss;
 ghost use mathlib.Core.Path.{_≡_};
-ghost use mathlib.Core.Bool.{true};
-ghost use mathlib.Core.Logic.{_↔_};
 ghost use mathlib.Core.Option.{Option};
 ghost use lib.ListN.{length};
 ghost use Rattle.format.specs.Refusals.{numbers};
@@ -216,7 +215,7 @@ pub extern "C" fn cpim_to_string(
 #[no_mangle]
 pub extern "C" fn cpim_comes_back(m: CpimMessage, head: &[u8], body: &[u8]) -> bool
     ensures condition { λ r. ⌜ ((o : Option Message) → Held (bothLent m (now (head .entry)) (now (body .entry))) o → r ≡ wholeHeld o) ⌝ }
-    ensures theorem { λ r. ⌜ (r ≡ true) ↔ ((k : Message) × Holds (bothLent m (now (head .entry)) (now (body .entry))) k × ReadsBack k) ⌝ }
+    ensures theorem { λ r. ⌜ ReadsBack (bothLent m (now (head .entry)) (now (body .entry))) r ⌝ }
 {
     whole::comes_back(m, head, body)
 }

@@ -12,15 +12,14 @@ use lib.ListN.{length}
 use borrow.Author.Tests.{eq-eqb, ne-eqb}
 use Rattle.format.specs.Bytes.{Bytes, isEmpty, all}
 use Rattle.format.specs.Characters.{isUtf8}
-use Rattle.format.specs.Message.{Entry, Header, Message, need}
-use Rattle.format.specs.Layout.{Lent, Holds, Held, message, nothing}
+use Rattle.format.specs.Message.{Entry, Header, Message}
+use Rattle.format.specs.Layout.{Lent, Held, message, nothing}
 use Rattle.format.specs.Demand3.{hasHeader, noParam, notType, comesBack}
 use Rattle.format.proofs.Lists.{bcase, clash}
 use Rattle.format.proofs.Texts.RoundTrip.{reads-back}
 use Rattle.format.proofs.Texts.OnlyIf.{back-only}
 use Rattle.clauses.specs.Clauses.{passing}
 use Rattle.clauses.proofs.Passing.{passing-all, passing-some}
-use Rattle.held.proofs.Held.{held-total}
 use Rattle.whole.specs.declared.Loss.{Loss}
 use Rattle.whole.specs.Loss.{lost, none-lost, clause, each, early, late, loss, lossHeld, wholeHeld, ReadsBack}
 
@@ -116,22 +115,9 @@ answers (some k) l e =
     (λ b. ne-eqb (l .clause) 0 (λ z. clash (loss-none k .0 (sym same ∙ z)) b) ∙ sym b)
     (bcase (comesBack k))
 
--- Where it is yes, a message is held that reads back; and where such a message is held it is yes.
+-- Yes exactly where the message held reads back.
 module _ (l : Lent) (r : Bool) (e : (o : Option Message) → Held l o → r ≡ wholeHeld o) where
-  yes-reads : r ≡ true → (k : Message) × Holds l k × ReadsBack k
+  pub reads-back-exactly : ReadsBack l r
   unfolding wholeHeld
-  yes-reads h = by (held-total l .0) (held-total l .1)
-    where
-      by : (o : Option Message) → Held l o → (k : Message) × Holds l k × ReadsBack k
-      by o (message {m = k} g) = (k, g, λ stores room. reads-back k stores (g .within) (sym (e (some k) (message g)) ∙ h) room)
-      by o (nothing f) = clash h (e none (nothing f))
-
-  reads-yes : (k : Message) × Holds l k × ReadsBack k → r ≡ true
-  unfolding wholeHeld
-  reads-yes w =
-      let k = w .0 in
-      e (some k) (message (w .1))
-      ∙ back-only k (record { head = need k; body = length (k .body) }) (w .1 .within) (w .2 (record { head = need k; body = length (k .body) }) (omega arith, omega arith))
-
-  pub reads-back-exactly : (r ≡ true) ↔ ((k : Message) × Holds l k × ReadsBack k)
-  reads-back-exactly = (yes-reads, reads-yes)
+  reads-back-exactly k g stores room =
+      ((λ h. reads-back k stores (g .within) (sym (e (some k) (message g)) ∙ h) room), (λ b. e (some k) (message g) ∙ back-only k stores (g .within) b))

@@ -5,12 +5,14 @@ use Prim.Native.Nat.{ℕ}
 use mathlib.Core.Path.{_≡_}
 use mathlib.Core.Bool.{Bool, true, false}
 use mathlib.Core.List.{List}
+use mathlib.Core.Logic.{_↔_}
 use mathlib.Core.Option.{Option, none, some}
 use Rattle.format.specs.Bytes.{Bytes, all}
 use Rattle.format.specs.Characters.{isUtf8, isWhite, clearEnds}
 use Rattle.format.specs.Refusals.{accepted}
 use Rattle.format.specs.Message.{Entry, Header, Message}
 use Rattle.format.specs.Calls.{Stores}
+use Rattle.format.specs.Layout.{Lent, Holds}
 use Rattle.format.specs.Writing.{write}
 use Rattle.format.specs.Reading.{read}
 use Rattle.format.specs.Demand3.{hasHeader, noParam, notType, clearName, clearContent, clearValue, comesBack, RoomFor}
@@ -54,6 +56,6 @@ unfoldable pub wholeHeld : Option Message → Bool
 wholeHeld none = false
 wholeHeld (some m) = comesBack m
 
--- reading the message's text, with room for it, gives the message
-abbrev pub ReadsBack : Message → Type 0
-ReadsBack k = (stores : Stores) → RoomFor k stores → read (write k) stores ≡ accepted k
+-- what an answer r says of the message held, if there is one: yes exactly when reading its text, in any stores with room for it, gives it
+abbrev pub ReadsBack : Lent → Bool → Type 0
+ReadsBack l r = (k : Message) → Holds l k → (stores : Stores) → RoomFor k stores → (r ≡ true) ↔ (read (write k) stores ≡ accepted k)

@@ -10,10 +10,9 @@ use utf8::is_utf8;
 ghost use mathlib.Core.Path.{_≡_};
 ghost use mathlib.Core.Bool.{true};
 ghost use mathlib.Core.List.{List};
-ghost use mathlib.Core.Logic.{_↔_};
 ghost use mathlib.Core.Option.{Option};
 ghost use Rattle.format.specs.Message.{Entry, Header, Message};
-ghost use Rattle.format.specs.Layout.{layoutEntry, layoutHeader, Holds, Held};
+ghost use Rattle.format.specs.Layout.{layoutEntry, layoutHeader, Held};
 ghost use Rattle.format.specs.Lending.{bothLent};
 ghost use Rattle.entries.specs.Stored.{shapedAll};
 ghost use Rattle.nth.specs.Listed.{Listed};
@@ -109,7 +108,7 @@ pub fn loss_of(m: CpimMessage, head: &[u8], body: &[u8]) -> Loss
 // Whether reading its text, with room for it, gives the message held.
 pub fn comes_back(m: CpimMessage, head: &[u8], body: &[u8]) -> bool
     ensures condition { λ r. ⌜ ((o : Option Message) → Held (bothLent m (now (head .entry)) (now (body .entry))) o → r ≡ wholeHeld o) ⌝ }
-    ensures theorem { λ r. ⌜ (r ≡ true) ↔ ((k : Message) × Holds (bothLent m (now (head .entry)) (now (body .entry))) k × ReadsBack k) ⌝ }
+    ensures theorem { λ r. ⌜ ReadsBack (bothLent m (now (head .entry)) (now (body .entry))) r ⌝ }
 {
     loss_of(m, head, body).clause == 0
 }
