@@ -1,6 +1,9 @@
 # `make` proves everything and prints what is proved of the whole; `make test` is the gate.
 .PHONY: prove test compare bench format library calls rt cargo
 
+# More jobs than a machine of two cores has: crates of one level, and edits, wait for the slowest among them.
+export RT_JOBS ?= 4
+
 prove: rt
 	@rt prove
 	@echo

@@ -1,5 +1,5 @@
-// Document 01, "Reading": `parse_cpim`. A text is judged (crate texts), its header lines and content lines are read into the head store
-// (crate linewise), and its body is laid into the body store. A refused reading leaves zeros in both stores.
+// Document 01, "Reading": `parse_cpim`. A text is judged (crate text_parts), its header lines and content lines are read into the head store
+// (crate section_lines), and its body is laid into the body store. A refused reading leaves zeros in both stores.
 
 use bodies::join_into;
 use compare::says;

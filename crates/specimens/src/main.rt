@@ -192,7 +192,7 @@ fn limits() {
     );
 }
 
-// A head store of 255 bytes, one with room for all, one that is a byte short, and no body store.
+// A head store of 255 bytes, and one that is a byte short.
 fn stores(text: &[u8]) {
     let mut body = [0u8; 2];
     let mut short = [0u8; 255];

@@ -97,7 +97,7 @@ pub fn body_len(text: &[u8], crlf: bool, rest: usize) -> usize
     joined_len(&text[rest..])
 }
 
-// The body's length: 23, then 26 under LFLF, where the body is written to the buffer's start.
+// The body's length: 1, 24, 2, 23, then 26 under LFLF, where the body is written to the buffer's start.
 pub fn read_body(text: &[u8], buffer: &mut [u8]) -> BodyAnswer
     ensures answered { λ r. ⌜ record { number = r .number; carried = r .carried } ≡ numbers (findBody (now (text .entry)) (length (now (buffer .entry)))) ⌝ }
     ensures length { λ r. ⌜ r .length ≡ bodyLengthOf (findBody (now (text .entry)) (length (now (buffer .entry)))) ⌝ }
