@@ -1,3 +1,5 @@
+mod link;
+
 fn main() {
-    common::link("cpim");
+    link::link("cpim");
 }

@@ -1,3 +1,6 @@
+#[path = "../cpim/link.rs"]
+mod link;
+
 fn main() {
-    common::link("leaves");
+    link::link("leaves");
 }

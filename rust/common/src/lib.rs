@@ -1,11 +1,9 @@
 //! What the programs that compare with Rust have in common.
 
-mod link;
 mod random;
 mod words;
 mod work;
 
-pub use link::link;
 pub use random::Random;
 pub use words::words;
 pub use work::in_parts;

@@ -1,9 +1,18 @@
-//! The calls, proved in the crates that crates/cpim names, as safe functions, and what the programs that run them beside the source
-//! share: the layout of a message, the table of refusals, lent stores, names and values.
+//! Common Profile for Instant Messaging (CPIM) message format.
+#![deny(unsafe_code)]
+#![forbid(unsafe_op_in_unsafe_fn)]
 
-pub mod exports;
-pub mod layout;
-pub mod names;
+mod error;
+mod header;
+pub mod lent;
+mod loss;
+mod message;
+mod places;
 pub mod raw;
-pub mod refusals;
-pub mod store;
+mod text;
+
+pub use error::{CpimError, Refusal};
+pub use header::CpimHeader;
+pub use loss::Loss;
+pub use message::{parse_cpim, CpimMessage};
+pub use text::SmolStr;

@@ -1,7 +1,12 @@
-//! The records of crates/format/src/lib.rt and the functions of crates/cpim/src/lib.rt, as safe functions on slices.
+//! The functions of crates/cpim as safe functions on slices, and their records (crates/cpim/cpim.h says the same in C). Each takes any
+//! record and any bytes; where they hold no message the answer is 25 carrying 0. Nothing is allocated.
 
+#![allow(unsafe_code)]
+
+/// A message in its stores: the length of its type; how many headers and the bytes that they take in the head store; the same of
+/// its content headers; the length of its body. The empty record (all 0) holds nothing.
 #[repr(C)]
-#[derive(Clone, Copy, Debug, Default, PartialEq)]
+#[derive(Clone, Copy, Debug, Default, PartialEq, Eq)]
 pub struct Record {
     pub typelen: usize,
     pub headers: usize,
@@ -12,25 +17,24 @@ pub struct Record {
 }
 
 impl Record {
+    /// The bytes of the head store that the message takes.
+    pub fn need(&self) -> usize {
+        256 + self.headerlen + self.contentlen
+    }
+
     pub fn fields(&mut self) -> [&mut usize; 6] {
         let r = self;
         [&mut r.typelen, &mut r.headers, &mut r.headerlen, &mut r.contents, &mut r.contentlen, &mut r.bodylen]
     }
 }
 
+/// A header alone in its store: the length of its value, how many parameters, and the bytes that it takes.
 #[repr(C)]
-#[derive(Clone, Copy, Debug, Default, PartialEq)]
+#[derive(Clone, Copy, Debug, Default, PartialEq, Eq)]
 pub struct HeaderRecord {
     pub valuelen: usize,
     pub params: usize,
     pub size: usize,
-}
-
-#[repr(C)]
-#[derive(Clone, Copy, Debug, PartialEq)]
-pub struct Numbers {
-    pub number: u64,
-    pub carried: u64,
 }
 
 impl HeaderRecord {
@@ -39,109 +43,127 @@ impl HeaderRecord {
     }
 }
 
-/// The clause that fails first, 0 where none does, and for which entry.
+/// The number of a refusal, 0 where there is none, and what it carries.
 #[repr(C)]
-#[derive(Clone, Copy, Debug, PartialEq)]
-pub struct Loss {
-    pub clause: usize,
-    pub entry: usize,
+#[derive(Clone, Copy, Debug, PartialEq, Eq)]
+pub struct Numbers {
+    pub number: u64,
+    pub carried: u64,
 }
 
-/// The two numbers of an answer, and the record (or the length) handed back.
+/// The two numbers, and the record (or the length) handed back.
 #[repr(C)]
-#[derive(Clone, Copy, Debug, PartialEq)]
+#[derive(Clone, Copy, Debug, PartialEq, Eq)]
 pub struct Answer<R> {
     pub number: u64,
     pub carried: u64,
     pub record: R,
 }
 
-/// A slice crosses as its place and its length.
-pub type One = unsafe extern "C" fn(Record, *mut u8, usize, *const u8, usize) -> Answer<Record>;
-pub type Two = unsafe extern "C" fn(Record, *mut u8, usize, *const u8, usize, *const u8, usize) -> Answer<Record>;
+/// The clause of demand 3 that fails first, 0 where none does, 9 where nothing is held; and for which entry.
+#[repr(C)]
+#[derive(Clone, Copy, Debug, PartialEq, Eq)]
+pub struct Loss {
+    pub clause: usize,
+    pub entry: usize,
+}
 
+/// A call on a message and one text.
+pub type One = fn(Record, &mut [u8], &[u8]) -> Answer<Record>;
+/// A call on a message and two texts.
+pub type Two = fn(Record, &mut [u8], &[u8], &[u8]) -> Answer<Record>;
+
+// A slice crosses as its place and its length.
 extern "C" {
     fn cpim_new(
         content_type: *const u8,
-        a: usize,
+        _: usize,
         body: *const u8,
-        b: usize,
+        _: usize,
         head: *mut u8,
-        c: usize,
+        _: usize,
         store: *mut u8,
-        d: usize,
+        _: usize,
     ) -> Answer<Record>;
     fn cpim_set_body(
         m: Record,
         head: *const u8,
-        a: usize,
+        _: usize,
         store: *mut u8,
-        b: usize,
+        _: usize,
         body: *const u8,
-        c: usize,
+        _: usize,
     ) -> Answer<Record>;
     fn cpim_add_header_obj(
         m: Record,
         head: *mut u8,
-        a: usize,
+        _: usize,
         name: *const u8,
-        b: usize,
+        _: usize,
         h: HeaderRecord,
         store: *const u8,
-        c: usize,
+        _: usize,
     ) -> Answer<Record>;
-    fn cpim_header_new(value: *const u8, a: usize, store: *mut u8, b: usize) -> Answer<HeaderRecord>;
+    fn cpim_header_new(value: *const u8, _: usize, store: *mut u8, _: usize) -> Answer<HeaderRecord>;
     fn cpim_header_with_param(
         h: HeaderRecord,
         store: *mut u8,
-        a: usize,
+        _: usize,
         name: *const u8,
-        b: usize,
+        _: usize,
         value: *const u8,
-        c: usize,
+        _: usize,
     ) -> Answer<HeaderRecord>;
-    fn cpim_parse(text: *const u8, a: usize, head: *mut u8, b: usize, body: *mut u8, c: usize) -> Answer<Record>;
-    fn cpim_read_body(text: *const u8, a: usize, buffer: *mut u8, b: usize) -> Answer<usize>;
+    fn cpim_parse(text: *const u8, _: usize, head: *mut u8, _: usize, body: *mut u8, _: usize) -> Answer<Record>;
+    fn cpim_read_body(text: *const u8, _: usize, buffer: *mut u8, _: usize) -> Answer<usize>;
     fn cpim_to_string(
         m: Record,
         head: *const u8,
-        a: usize,
+        _: usize,
         body: *const u8,
-        b: usize,
+        _: usize,
         out: *mut u8,
-        c: usize,
+        _: usize,
     ) -> Numbers;
-    fn cpim_comes_back(m: Record, head: *const u8, a: usize, body: *const u8, b: usize) -> bool;
-    fn cpim_loss(m: Record, head: *const u8, a: usize, body: *const u8, b: usize) -> Loss;
-    fn cpim_run(script: *const u8, a: usize, m: Record, head: *mut u8, b: usize, body: *mut u8, c: usize) -> Record;
+    fn cpim_comes_back(m: Record, head: *const u8, _: usize, body: *const u8, _: usize) -> bool;
+    fn cpim_loss(m: Record, head: *const u8, _: usize, body: *const u8, _: usize) -> Loss;
+    fn cpim_run(script: *const u8, _: usize, m: Record, head: *mut u8, _: usize, body: *mut u8, _: usize) -> Record;
 }
 
+// SAFETY of every call below: a slice is passed as its pointer and its length, what is lent to be written overlaps nothing else (the
+// borrows say so), and the functions ask for nothing more.
+
 /// Functions on a message and one or two texts.
-macro_rules! declare {
-    ($($name:ident($($text:ident $len:ident),*))*) => {
+macro_rules! calls {
+    ($($(#[$doc:meta])* $name:ident $export:ident($($text:ident),*))*) => {
         extern "C" {
-            $(pub fn $name(m: Record, head: *mut u8, a: usize, $($text: *const u8, $len: usize),*) -> Answer<Record>;)*
+            $(fn $export(m: Record, head: *mut u8, _: usize, $($text: *const u8, _: usize),*) -> Answer<Record>;)*
         }
+        $($(#[$doc])*
+        pub fn $name(m: Record, head: &mut [u8], $($text: &[u8]),*) -> Answer<Record> {
+            unsafe { $export(m, head.as_mut_ptr(), head.len(), $($text.as_ptr(), $text.len()),*) }
+        })*
     };
 }
 
-declare! {
-    cpim_set_header(s b, t c)
-    cpim_add_header(s b, t c)
-    cpim_add_content_header(s b, t c)
-    cpim_with_subject_lang(s b, t c)
-    cpim_with_ns(s b, t c)
-    cpim_with_content_header(s b, t c)
-    cpim_with_from(s b)
-    cpim_with_to(s b)
-    cpim_with_datetime(s b)
-    cpim_with_subject(s b)
-    cpim_with_cc(s b)
-    cpim_with_require(s b)
+calls! {
+    /// Replaces every value of a name.
+    set_header cpim_set_header(name, value)
+    /// Appends a value to a name's.
+    add_header cpim_add_header(name, value)
+    add_content_header cpim_add_content_header(name, value)
+    with_content_header cpim_with_content_header(name, value)
+    with_from cpim_with_from(from)
+    with_to cpim_with_to(to)
+    with_datetime cpim_with_datetime(datetime)
+    with_subject cpim_with_subject(subject)
+    with_subject_lang cpim_with_subject_lang(subject, lang)
+    with_cc cpim_with_cc(cc)
+    with_ns cpim_with_ns(prefix, uri)
+    with_require cpim_with_require(feature)
 }
 
-// SAFETY of every call below: a slice is passed as its pointer and its length, and what is lent to be written overlaps nothing else.
-
+/// A message of a type and a body, in `head` and `store`.
 pub fn new(content_type: &[u8], body: &[u8], head: &mut [u8], store: &mut [u8]) -> Answer<Record> {
     let (t, b, h, s) = (content_type, body, head, store);
     unsafe { cpim_new(t.as_ptr(), t.len(), b.as_ptr(), b.len(), h.as_mut_ptr(), h.len(), s.as_mut_ptr(), s.len()) }
@@ -151,6 +173,7 @@ pub fn set_body(m: Record, head: &[u8], store: &mut [u8], body: &[u8]) -> Answer
     unsafe { cpim_set_body(m, head.as_ptr(), head.len(), store.as_mut_ptr(), store.len(), body.as_ptr(), body.len()) }
 }
 
+/// Appends a header that was built alone.
 pub fn add_header_obj(m: Record, head: &mut [u8], name: &[u8], h: HeaderRecord, store: &[u8]) -> Answer<Record> {
     let (n, s) = (name, store);
     unsafe { cpim_add_header_obj(m, head.as_mut_ptr(), head.len(), n.as_ptr(), n.len(), h, s.as_ptr(), s.len()) }
@@ -165,36 +188,39 @@ pub fn header_with_param(h: HeaderRecord, store: &mut [u8], name: &[u8], value: 
     unsafe { cpim_header_with_param(h, s.as_mut_ptr(), s.len(), n.as_ptr(), n.len(), v.as_ptr(), v.len()) }
 }
 
-pub fn one(f: One, m: Record, head: &mut [u8], a: &[u8]) -> Answer<Record> {
-    unsafe { f(m, head.as_mut_ptr(), head.len(), a.as_ptr(), a.len()) }
-}
-
-pub fn two(f: Two, m: Record, head: &mut [u8], a: &[u8], b: &[u8]) -> Answer<Record> {
-    unsafe { f(m, head.as_mut_ptr(), head.len(), a.as_ptr(), a.len(), b.as_ptr(), b.len()) }
-}
-
+/// `parse_cpim`. A refused reading leaves zeros in both stores.
 pub fn parse(text: &[u8], head: &mut [u8], body: &mut [u8]) -> Answer<Record> {
     let (t, h, b) = (text, head, body);
     unsafe { cpim_parse(t.as_ptr(), t.len(), h.as_mut_ptr(), h.len(), b.as_mut_ptr(), b.len()) }
 }
 
+/// The length of a text's body; under LFLF the body is written to the buffer's start.
 pub fn read_body(text: &[u8], buffer: &mut [u8]) -> Answer<usize> {
     unsafe { cpim_read_body(text.as_ptr(), text.len(), buffer.as_mut_ptr(), buffer.len()) }
 }
 
-pub fn to_string(m: Record, head: &[u8], body: &[u8], out: &mut [u8]) -> Numbers {
-    let (h, b) = (head, body);
-    unsafe { cpim_to_string(m, h.as_ptr(), h.len(), b.as_ptr(), b.len(), out.as_mut_ptr(), out.len()) }
+/// Writes the message's text to the start of `out` and gives its length.
+pub fn to_string(m: Record, head: &[u8], body: &[u8], out: &mut [u8]) -> Answer<usize> {
+    let write = |out: &mut [u8]| unsafe {
+        cpim_to_string(m, head.as_ptr(), head.len(), body.as_ptr(), body.len(), out.as_mut_ptr(), out.len())
+    };
+    // Stands in for an export that hands back the length too: no text is empty, so an empty output is refused by the length.
+    let Numbers { number, carried } = write(out);
+    let record = if number == 0 { write(&mut []).carried as usize } else { 0 };
+    Answer { number, carried, record }
 }
 
+/// Whether reading its text, with room for it, gives the message held.
 pub fn comes_back(m: Record, head: &[u8], body: &[u8]) -> bool {
     unsafe { cpim_comes_back(m, head.as_ptr(), head.len(), body.as_ptr(), body.len()) }
 }
 
+/// Where it does not: the clause that fails first, and for which entry.
 pub fn loss(m: Record, head: &[u8], body: &[u8]) -> Loss {
     unsafe { cpim_loss(m, head.as_ptr(), head.len(), body.as_ptr(), body.len()) }
 }
 
+/// A script of changing calls (crates/script/specs/Script.antt), run one behind another.
 pub fn run(script: &[u8], m: Record, head: &mut [u8], body: &mut [u8]) -> Record {
     let (s, h, b) = (script, head, body);
     unsafe { cpim_run(s.as_ptr(), s.len(), m, h.as_mut_ptr(), h.len(), b.as_mut_ptr(), b.len()) }

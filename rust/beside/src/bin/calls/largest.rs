@@ -4,8 +4,8 @@ use crate::call::{Call, Function::*, Lengths};
 use crate::lists::{step, Room};
 use crate::random_calls::any;
 use crate::stores::Stores;
+use beside::names::Kind;
 use common::Random;
-use cpim::names::Kind;
 
 /// Bodies at the limit and one past it.
 fn bodies(stores: &mut Stores) {

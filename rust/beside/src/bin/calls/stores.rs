@@ -2,12 +2,12 @@
 
 use crate::call::{Call, Function::*, Lengths};
 use crate::whole::{comes_back, loss};
+use beside::exports::BY_CALLS;
+use beside::layout::{decode, layout, layout_alone, need, need_alone, record, record_alone};
+use beside::refusals::{Refusal, NOTHING_HELD};
+use beside::store::Store;
 use common::Random;
-use cpim::exports::BY_CALLS;
-use cpim::layout::{decode, layout, layout_alone, need, need_alone, record, record_alone};
 use cpim::raw::{self, Answer, HeaderRecord, Loss, Record};
-use cpim::refusals::{Refusal, NOTHING_HELD};
-use cpim::store::Store;
 use source::cpim::{CpimHeader, CpimMessage};
 use std::fmt::Debug;
 use std::process::exit;
@@ -239,24 +239,24 @@ impl Stores {
     fn answer(&mut self, call: &Call, lengths: Lengths) -> Answer<Record> {
         let (m, a, b) = (self.record, &call.first, &call.second);
         let head = self.head.lent(lengths.head);
-        let one = |f: raw::One, head: &mut [u8]| raw::one(f, m, head, a);
-        let two = |f: raw::Two, head: &mut [u8]| raw::two(f, m, head, a, b);
+        let one = |f: raw::One, head: &mut [u8]| f(m, head, a);
+        let two = |f: raw::Two, head: &mut [u8]| f(m, head, a, b);
         match call.function {
             New => raw::new(a, b, head, self.body.lent(lengths.body)),
             SetBody => raw::set_body(m, head, self.body.lent(lengths.body), a),
             AddObj => raw::add_header_obj(m, head, a, self.header_record, self.header_store.bytes(lengths.header)),
-            SetHeader => two(raw::cpim_set_header, head),
-            AddHeader => two(raw::cpim_add_header, head),
-            AddContent => two(raw::cpim_add_content_header, head),
-            SubjectLang => two(raw::cpim_with_subject_lang, head),
-            Ns => two(raw::cpim_with_ns, head),
-            WithContent => two(raw::cpim_with_content_header, head),
-            From => one(raw::cpim_with_from, head),
-            To => one(raw::cpim_with_to, head),
-            DateTime => one(raw::cpim_with_datetime, head),
-            Subject => one(raw::cpim_with_subject, head),
-            Cc => one(raw::cpim_with_cc, head),
-            Require => one(raw::cpim_with_require, head),
+            SetHeader => two(raw::set_header, head),
+            AddHeader => two(raw::add_header, head),
+            AddContent => two(raw::add_content_header, head),
+            SubjectLang => two(raw::with_subject_lang, head),
+            Ns => two(raw::with_ns, head),
+            WithContent => two(raw::with_content_header, head),
+            From => one(raw::with_from, head),
+            To => one(raw::with_to, head),
+            DateTime => one(raw::with_datetime, head),
+            Subject => one(raw::with_subject, head),
+            Cc => one(raw::with_cc, head),
+            Require => one(raw::with_require, head),
             HeaderNew | WithParam => unreachable!(),
         }
     }

@@ -4,8 +4,8 @@ use crate::call::{Call, Function::*, Lengths};
 use crate::lists::{step, Room};
 use crate::random_calls::{any, new};
 use crate::stores::Stores;
+use beside::names::Kind;
 use common::Random;
-use cpim::names::Kind;
 use cpim::raw;
 
 fn put_number(script: &mut Vec<u8>, n: usize) {

@@ -3,10 +3,10 @@
 use crate::expected::Reading;
 use crate::pattern::Pattern;
 use crate::tally::Tally;
+use beside::layout::{layout, record};
+use beside::store::Store;
 use common::Random;
-use cpim::layout::{layout, record};
 use cpim::raw::{self, Answer, Record};
-use cpim::store::Store;
 use std::fmt::Debug;
 use std::process::exit;
 

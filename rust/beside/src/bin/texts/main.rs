@@ -2,9 +2,7 @@
 //! and how often each refusal came; the first difference ends it with a failure and its text. `texts long` takes longer.
 
 mod compared;
-mod damage;
 mod expected;
-mod grammar;
 mod limits;
 mod long;
 mod pattern;
@@ -12,9 +10,10 @@ mod pieces;
 mod tally;
 mod writing;
 
+use beside::exports::{all_compared, BY_TEXTS};
+use beside::{damage, grammar};
 use common::{grouped, in_parts, Random};
 use compared::Compared;
-use cpim::exports::{all_compared, BY_TEXTS};
 use std::process::exit;
 use tally::Tally;
 

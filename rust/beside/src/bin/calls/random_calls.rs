@@ -1,8 +1,8 @@
 //! Calls drawn at random.
 
 use crate::call::{Call, Function, Function::*};
+use beside::names::Kind;
 use common::Random;
-use cpim::names::Kind;
 
 pub fn new(random: &mut Random, kind: Kind) -> Call {
     Call { function: New, first: kind.content_type(random), second: kind.body(random) }

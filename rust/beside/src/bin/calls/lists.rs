@@ -3,9 +3,9 @@
 use crate::call::{Call, Function, Function::*, Lengths};
 use crate::random_calls::{any, new, of};
 use crate::stores::Stores;
+use beside::layout::{need, need_alone};
+use beside::names::Kind;
 use common::Random;
-use cpim::layout::{need, need_alone};
-use cpim::names::Kind;
 
 /// How long the stores lent to a list are.
 #[derive(Clone, Copy)]

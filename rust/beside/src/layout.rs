@@ -1,6 +1,6 @@
 //! A message of the source in lent stores by crates/format/specs/Layout.antt: what its bytes must be, and what bytes hold.
 
-use crate::raw::{HeaderRecord, Record};
+use cpim::raw::{HeaderRecord, Record};
 use source::cpim::{CpimHeader, CpimMessage};
 
 /// The bytes of an entry: its numbers, name, value and parameters.

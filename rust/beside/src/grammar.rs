@@ -1,7 +1,7 @@
 //! Random texts from a grammar: every delimiter, escape, white space and limit.
 
+use crate::names::{text_of, Kind};
 use common::Random;
-use cpim::names::{text_of, Kind};
 use source::cpim::open_escape_header_value;
 use std::str::from_utf8;
 

@@ -11,7 +11,8 @@ pub fn link(name: &str) {
             Ok(status) if status.success() => {}
             Ok(status) => panic!("`rt staticlib {name}` failed ({status}): see target/log/{name}.out"),
             Err(e) => panic!(
-                "{} is missing and `rt` cannot be run ({e}): install the Rattle toolchain, then run `rt staticlib {name}`",
+                "{} is missing and `rt` cannot be run ({e}): install the Rattle toolchain, then run `rt staticlib {name}`; or copy the \
+                 library there from a machine that has the toolchain",
                 library.display()
             ),
         }

@@ -1,7 +1,7 @@
 //! What reading must answer, reckoned from the source: its answer with room for everything, and the room needed at each line.
 
-use cpim::layout::need;
-use cpim::refusals::{number, text, Refusal};
+use beside::layout::need;
+use beside::refusals::{number, text, Refusal};
 use source::cpim::{parse_cpim, CpimMessage};
 use std::collections::BTreeMap;
 

@@ -2,9 +2,9 @@
 
 use crate::compared::{differ, few, Compared, MANY};
 use crate::expected::Reading;
-use cpim::layout::held;
-use cpim::raw::{self, Numbers, Record};
-use cpim::refusals::{Refusal, NOTHING_HELD};
+use beside::layout::held;
+use beside::refusals::{Refusal, NOTHING_HELD};
+use cpim::raw::{self, Answer, Record};
 use source::cpim::CpimMessage;
 
 impl Compared {
@@ -64,13 +64,13 @@ impl Compared {
         let want = match due {
             Ok(t) if t.len() <= out => {
                 self.out.must(t);
-                (0, 0)
+                (0, 0, t.len())
             }
-            Ok(t) => (26, t.len() as u64),
-            Err(e) => e,
+            Ok(t) => (26, t.len() as u64, 0),
+            Err((number, carried)) => (number, carried, 0),
         };
         self.tally.written[[0, 25, 26].iter().position(|n| *n == want.0).unwrap()] += 1;
-        let want = Numbers { number: want.0, carried: want.1 };
+        let want = Answer { number: want.0, carried: want.1, record: want.2 };
         let input = (record, head, body, out);
         if got != want {
             differ("Writing", &input, text, &got, &want);

@@ -1,6 +1,6 @@
 //! How often each answer was seen.
 
-use cpim::exports::BY_TEXTS;
+use beside::exports::BY_TEXTS;
 
 /// How often each answer was given by reading and by the body without a store: accepted (0) and each number; by writing: accepted,
 /// 25 carrying 0, 26.

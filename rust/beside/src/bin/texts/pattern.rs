@@ -1,7 +1,7 @@
 //! What a store holds before a call: other bytes each time, and none of them 0, so that a byte written or zeroed shows.
 
+use beside::store::Store;
 use common::Random;
-use cpim::store::Store;
 
 /// How many bytes behind a store are laid too.
 const BEHIND: usize = 64;

@@ -3,8 +3,8 @@
 use crate::call::{Call, Lengths};
 use crate::samples::{battery, header_battery, samples};
 use crate::stores::Stores;
+use beside::layout::{held, held_alone, need, need_alone};
 use common::Random;
-use cpim::layout::{held, held_alone, need, need_alone};
 use cpim::raw::{HeaderRecord, Record};
 
 /// The work in parts of about the same size; each part takes every so manieth alteration.

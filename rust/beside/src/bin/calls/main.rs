@@ -11,8 +11,8 @@ mod scripts;
 mod stores;
 mod whole;
 
+use beside::exports::{all_compared, BY_CALLS, BY_LISTS};
 use common::{grouped, in_parts};
-use cpim::exports::{all_compared, BY_CALLS, BY_LISTS};
 use std::process::exit;
 use stores::{Stores, Tally};
 

@@ -1,0 +1,99 @@
+//! A header with its parameters.
+
+use crate::error::{CpimError, Refusal};
+use crate::places::{header_places, rows_of, text, Entries, Entry};
+use crate::raw::{self, Answer, HeaderRecord};
+use crate::text::SmolStr;
+use std::collections::BTreeMap;
+use std::fmt;
+use std::sync::OnceLock;
+
+/// A CPIM message header with optional parameters.
+#[derive(Clone)]
+pub struct CpimHeader {
+    record: HeaderRecord,
+    store: Vec<u8>,
+    /// Made at its first use.
+    params: OnceLock<BTreeMap<SmolStr, SmolStr>>,
+}
+
+/// Calls with a store that grows as far as the call asks for.
+fn growing(store: &mut Vec<u8>, call: impl Fn(&mut [u8]) -> Answer<HeaderRecord>) -> Result<HeaderRecord, CpimError> {
+    loop {
+        match call(store).accepted() {
+            Err(Refusal { number: 25, carried }) if carried as usize > store.len() => store.resize(carried as usize, 0),
+            answer => return answer.map_err(CpimError::from),
+        }
+    }
+}
+
+impl CpimHeader {
+    /// Creates a new CPIM header with the given value.
+    pub fn new(value: &str) -> Result<Self, CpimError> {
+        let mut store = Vec::new();
+        let record = growing(&mut store, |store| raw::header_new(value.as_bytes(), store))?;
+        Ok(CpimHeader { record, store, params: OnceLock::new() })
+    }
+
+    /// Adds a parameter to the header.
+    pub fn with_param(mut self, name: &str, value: &str) -> Result<Self, CpimError> {
+        let (record, n, v) = (self.record, name.as_bytes(), value.as_bytes());
+        self.record = growing(&mut self.store, |store| raw::header_with_param(record, store, n, v))?;
+        self.params.take();
+        Ok(self)
+    }
+
+    /// Returns the header value.
+    pub fn value(&self) -> &str {
+        text(&self.store[16..][..self.record.valuelen])
+    }
+
+    /// Returns the header parameters.
+    pub fn params(&self) -> &BTreeMap<SmolStr, SmolStr> {
+        self.params.get_or_init(|| {
+            if self.record.params == 0 {
+                return BTreeMap::new();
+            }
+            let rows = rows_of(self.record.params, |out| header_places(self.record, &self.store, out));
+            pairs(Entries::alone(self.record, &self.store, &rows))
+        })
+    }
+
+    pub(crate) fn record(&self) -> HeaderRecord {
+        self.record
+    }
+
+    pub(crate) fn store(&self) -> &[u8] {
+        &self.store
+    }
+
+    /// A header of a message by itself: 16 zeros, the value, the parameters as they stand there (crates/format/specs/Layout.antt).
+    pub(crate) fn of(entry: Entry<'_>) -> Self {
+        let (value, tail) = (entry.value_bytes(), entry.tail());
+        let store = [&[0; 16], value, tail].concat();
+        let record = HeaderRecord { valuelen: value.len(), params: entry.params().count(), size: store.len() };
+        CpimHeader { record, store, params: OnceLock::new() }
+    }
+
+    fn held(&self) -> &[u8] {
+        &self.store[..self.record.size]
+    }
+}
+
+/// The map of entries that stand in its order.
+pub(crate) fn pairs(entries: Entries<'_>) -> BTreeMap<SmolStr, SmolStr> {
+    entries.map(|e| (SmolStr::new(e.name()), SmolStr::new(e.value()))).collect()
+}
+
+/// The bytes are a function of value and parameters.
+impl PartialEq for CpimHeader {
+    fn eq(&self, other: &Self) -> bool {
+        self.record == other.record && self.held() == other.held()
+    }
+}
+
+impl fmt::Debug for CpimHeader {
+    fn fmt(&self, f: &mut fmt::Formatter<'_>) -> fmt::Result {
+        f.debug_struct("CpimHeader").field("value", &self.value()).field("params", self.params()).finish()
+    }
+}

@@ -1,0 +1,185 @@
+//! Messages and headers in stores that the caller lends: nothing is allocated, no byte is copied that need not be. Texts and arguments are
+//! any bytes.
+//!
+//! A head store takes 256 bytes, and 16 and its name and value for each header, parameter and content header; never more than 250,016. A
+//! store that is too short is refused by 25 (26 for a body store or an output) carrying the bytes needed, and nothing is changed.
+//!
+//! ```
+//! use cpim::lent::Message;
+//!
+//! let (mut head, mut body, mut out) = ([0; 600], [0; 100], [0; 600]);
+//! let text = b"Content-type: Message/CPIM\r\n\r\nFrom: <im:a@b>\r\n\r\nContent-type: text/plain\r\n\r\nHi";
+//! let mut m = Message::parse(text, &mut head, &mut body)?;
+//! m.set_header(b"Subject", b"Umbrella")?;
+//! assert_eq!(m.get_header("From"), Some("<im:a@b>"));
+//! let len = m.write(&mut out)?;
+//! assert!(out[..len].ends_with(b"Subject: Umbrella\r\n\r\nContent-type: text/plain\r\n\r\nHi"));
+//!
+//! let refused = Message::parse(text, &mut [0; 255], &mut []).err().unwrap();
+//! assert_eq!(refused.to_string(), "25: head or header store too short (256 bytes needed)");
+//! # Ok::<(), cpim::Refusal>(())
+//! ```
+
+pub use crate::places::{Entries, Entry, Places, MOST, MOST_ALONE};
+pub use crate::raw::{HeaderRecord, Record};
+
+use crate::error::Refusal;
+use crate::loss::Loss;
+use crate::places::{header_places, text};
+use crate::raw;
+
+/// A message in lent stores.
+pub struct Message<'a> {
+    record: Record,
+    head: &'a mut [u8],
+    body: &'a mut [u8],
+}
+
+/// The changing calls on one or two texts.
+macro_rules! changing {
+    ($($name:ident($($text:ident),*))*) => {
+        $(pub fn $name(&mut self, $($text: &[u8]),*) -> Result<(), Refusal> {
+            self.record = raw::$name(self.record, self.head, $($text),*).accepted()?;
+            Ok(())
+        })*
+    };
+}
+
+impl<'a> Message<'a> {
+    /// Reads a text. A refused reading leaves zeros in both stores.
+    pub fn parse(text: &[u8], head: &'a mut [u8], body: &'a mut [u8]) -> Result<Self, Refusal> {
+        let record = raw::parse(text, head, body).accepted()?;
+        Ok(Message { record, head, body })
+    }
+
+    /// A message of a type and a body, which is copied into its store.
+    pub fn new(content_type: &[u8], body: &[u8], head: &'a mut [u8], store: &'a mut [u8]) -> Result<Self, Refusal> {
+        let record = raw::new(content_type, body, head, store).accepted()?;
+        Ok(Message { record, head, body: store })
+    }
+
+    /// What stores hold by a record that [`record`](Self::record) gave before. They are judged in full: 25 carrying 0 where they hold nothing.
+    pub fn held(record: Record, head: &'a mut [u8], body: &'a mut [u8]) -> Result<Self, Refusal> {
+        match raw::loss(record, head, body).clause {
+            9 => Err(Refusal { number: 25, carried: 0 }),
+            _ => Ok(Message { record, head, body }),
+        }
+    }
+
+    /// What to keep beside the stores.
+    pub fn record(&self) -> Record {
+        self.record
+    }
+
+    pub fn set_body(&mut self, body: &[u8]) -> Result<(), Refusal> {
+        self.record = raw::set_body(self.record, self.head, self.body, body).accepted()?;
+        Ok(())
+    }
+
+    pub fn add_header_obj(&mut self, name: &[u8], header: &Header<'_>) -> Result<(), Refusal> {
+        self.record = raw::add_header_obj(self.record, self.head, name, header.record, header.store).accepted()?;
+        Ok(())
+    }
+
+    changing! {
+        set_header(name, value)
+        add_header(name, value)
+        add_content_header(name, value)
+        with_content_header(name, value)
+        with_from(from)
+        with_to(to)
+        with_datetime(datetime)
+        with_subject(subject)
+        with_subject_lang(subject, lang)
+        with_cc(cc)
+        with_ns(prefix, uri)
+        with_require(feature)
+    }
+
+    /// Runs a script of changing calls (crates/script/specs/Script.antt) up to its first place where no whole call stands.
+    pub fn run(&mut self, script: &[u8]) {
+        self.record = raw::run(script, self.record, self.head, self.body);
+    }
+
+    /// Writes the message's text to the start of `out` and gives its length.
+    pub fn write(&self, out: &mut [u8]) -> Result<usize, Refusal> {
+        raw::to_string(self.record, self.head, self.body, out).accepted()
+    }
+
+    /// Whether reading the message's text gives this very message.
+    pub fn comes_back(&self) -> bool {
+        raw::comes_back(self.record, self.head, self.body)
+    }
+
+    /// What is lost first where it does not.
+    pub fn loss(&self) -> Option<Loss<'_>> {
+        Loss::of(self.record, self.head, self.body)
+    }
+
+    pub fn content_type(&self) -> &str {
+        text(&self.head[..self.record.typelen])
+    }
+
+    pub fn body(&self) -> &[u8] {
+        &self.body[..self.record.bodylen]
+    }
+
+    /// Where its headers and content headers stand; `rows` of [`MOST`] numbers are always enough. 26 carries how many are.
+    pub fn places<'b>(&'b self, rows: &'b mut [usize]) -> Result<Places<'b>, Refusal> {
+        Places::find(self.record, self.head, rows)
+    }
+
+    /// The first value of a name. For more than one lookup see [`places`](Self::places).
+    pub fn get_header(&self, name: &str) -> Option<&str> {
+        self.nth_header(name, 0)
+    }
+
+    /// The n-th value of a name, counting from 0.
+    pub fn nth_header(&self, name: &str, n: usize) -> Option<&str> {
+        let mut rows = [0; MOST];
+        let place = self.places(&mut rows).ok()?.named(name).nth(n)?.value_at();
+        Some(text(&self.head[place]))
+    }
+}
+
+/// A header alone in a lent store, which takes 16 bytes and its value, and 16 and name and value for each parameter.
+pub struct Header<'a> {
+    record: HeaderRecord,
+    store: &'a mut [u8],
+}
+
+impl<'a> Header<'a> {
+    pub fn new(value: &[u8], store: &'a mut [u8]) -> Result<Self, Refusal> {
+        let record = raw::header_new(value, store).accepted()?;
+        Ok(Header { record, store })
+    }
+
+    pub fn with_param(&mut self, name: &[u8], value: &[u8]) -> Result<(), Refusal> {
+        self.record = raw::header_with_param(self.record, self.store, name, value).accepted()?;
+        Ok(())
+    }
+
+    pub fn value(&self) -> &str {
+        text(&self.store[16..][..self.record.valuelen])
+    }
+
+    /// Where its parameters stand; `rows` of [`MOST_ALONE`] numbers are always enough. 26 carries how many are.
+    pub fn params<'b>(&'b self, rows: &'b mut [usize]) -> Result<Entries<'b>, Refusal> {
+        header_places(self.record, self.store, rows).accepted()?;
+        Ok(Entries::alone(self.record, self.store, rows))
+    }
+}
+
+/// The body of a text without a store for it: a part of the text, or, where the text has LFLF for its separator, the start of the buffer, to
+/// which it is written.
+pub fn body_of<'a>(text: &'a [u8], buffer: &'a mut [u8]) -> Result<&'a [u8], Refusal> {
+    // Under CRLFCRLF no buffer is needed, and the body is the end of the text; an empty one is the end of any text.
+    match raw::read_body(text, &mut []).accepted() {
+        Ok(len) => Ok(&text[text.len() - len..]),
+        Err(Refusal { number: 26, .. }) => {
+            let len = raw::read_body(text, buffer).accepted()?;
+            Ok(&buffer[..len])
+        }
+        Err(refusal) => Err(refusal),
+    }
+}

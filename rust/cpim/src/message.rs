@@ -1,0 +1,310 @@
+//! A message in stores of its own; every answer about it is one of the proved functions'.
+
+use crate::error::{CpimError, Refusal, MAX_BODY_SIZE};
+use crate::header::{pairs, CpimHeader};
+use crate::loss::Loss;
+use crate::places::{places, rows_of, text, Places};
+use crate::raw::{self, Answer, Record};
+use crate::text::SmolStr;
+use std::collections::BTreeMap;
+use std::fmt;
+use std::sync::OnceLock;
+
+/// The head store that a new message starts with: room for some headers.
+const FIRST_HEAD: usize = 1_024;
+/// No message needs more.
+const MOST_HEAD: usize = 250_016;
+/// Room to spare up to this is not given back.
+const SPARE: usize = 4_096;
+
+/// A CPIM message containing headers and content.
+///
+/// CPIM messages are used for instant messaging interoperability and include end-to-end metadata (From, To, DateTime, Subject, etc.) along with
+/// the message content.
+pub struct CpimMessage {
+    record: Record,
+    /// The message is in its first `record.need()` bytes, the rest is room.
+    head: Vec<u8>,
+    /// The body and nothing else.
+    body: Vec<u8>,
+    views: Views,
+}
+
+/// What is made at its first use, and dropped by a change.
+#[derive(Default)]
+struct Views {
+    rows: OnceLock<Vec<usize>>,
+    headers: OnceLock<BTreeMap<SmolStr, Vec<CpimHeader>>>,
+    contents: OnceLock<BTreeMap<SmolStr, SmolStr>>,
+}
+
+/// Gives back most of the room of a store that was lent far more than the `used` bytes.
+fn shrink(store: &mut Vec<u8>, used: usize) {
+    if store.capacity() - used > used + SPARE {
+        store.truncate(used);
+        store.shrink_to_fit();
+    }
+}
+
+/// Parses a CPIM message from a string.
+pub fn parse_cpim(input: &str) -> Result<CpimMessage, CpimError> {
+    // Room for any text of that length: an entry takes 14 bytes of the head store more than of the text, where it has 3 or more (`;a=`, or
+    // `a:` and a line end); a body that is joined takes 4 bytes for each LFLF. So neither 25 nor 26 comes.
+    let mut head = vec![0; MOST_HEAD.min(256 + 6 * input.len())];
+    let mut body = vec![0; MAX_BODY_SIZE.min(2 * input.len())];
+    loop {
+        match raw::parse(input.as_bytes(), &mut head, &mut body).accepted() {
+            Ok(record) => {
+                shrink(&mut head, record.need());
+                shrink(&mut body, record.bodylen);
+                body.truncate(record.bodylen);
+                return Ok(CpimMessage { record, head, body, views: Views::default() });
+            }
+            Err(Refusal { number: 25, carried }) if carried as usize > head.len() => head.resize(carried as usize, 0),
+            Err(Refusal { number: 26, carried }) if carried as usize > body.len() => body.resize(carried as usize, 0),
+            Err(refusal) => return Err(refusal.into()),
+        }
+    }
+}
+
+impl CpimMessage {
+    /// Creates a new CPIM message with the given content type and body.
+    pub fn new(content_type: &str, body: Vec<u8>) -> Result<Self, CpimError> {
+        let mut head = vec![0; FIRST_HEAD];
+        let record = raw::new(content_type.as_bytes(), &[], &mut head, &mut []).accepted()?;
+        let mut m = CpimMessage { record, head, body: Vec::new(), views: Views::default() };
+        m.set_body(body)?;
+        Ok(m)
+    }
+
+    /// Returns message headers.
+    pub fn headers(&self) -> &BTreeMap<SmolStr, Vec<CpimHeader>> {
+        self.views.headers.get_or_init(|| {
+            let mut map = BTreeMap::<SmolStr, Vec<CpimHeader>>::new();
+            for entry in self.places().headers() {
+                let header = CpimHeader::of(entry);
+                match map.get_mut(entry.name()) {
+                    Some(values) => values.push(header),
+                    None => drop(map.insert(SmolStr::new(entry.name()), vec![header])),
+                }
+            }
+            map
+        })
+    }
+
+    /// Returns the message content type.
+    pub fn content_type(&self) -> &str {
+        text(&self.head[..self.record.typelen])
+    }
+
+    /// Returns content headers.
+    pub fn content_headers(&self) -> &BTreeMap<SmolStr, SmolStr> {
+        self.views.contents.get_or_init(|| pairs(self.places().content_headers()))
+    }
+
+    /// Returns the message body bytes.
+    pub fn body(&self) -> &[u8] {
+        &self.body
+    }
+
+    /// Replaces the message body.
+    pub fn set_body(&mut self, body: Vec<u8>) -> Result<(), CpimError> {
+        // Asked of the message without its body, and without a body store: 26 says that nothing but room is missing. The vector itself then is
+        // the store, for the body of a message is the first `bodylen` bytes of whatever store is lent.
+        let bare = Record { bodylen: 0, ..self.record };
+        match raw::set_body(bare, &self.head, &mut [], &body).accepted() {
+            Ok(_) | Err(Refusal { number: 26, .. }) => {
+                self.record.bodylen = body.len();
+                self.body = body;
+                Ok(())
+            }
+            Err(refusal) => Err(refusal.into()),
+        }
+    }
+
+    /// Sets the From header.
+    pub fn with_from(self, from: &str) -> Result<Self, CpimError> {
+        self.with(raw::with_from, from)
+    }
+
+    /// Sets the To header.
+    pub fn with_to(self, to: &str) -> Result<Self, CpimError> {
+        self.with(raw::with_to, to)
+    }
+
+    /// Sets the DateTime header.
+    pub fn with_datetime(self, datetime: &str) -> Result<Self, CpimError> {
+        self.with(raw::with_datetime, datetime)
+    }
+
+    /// Sets the Subject header.
+    pub fn with_subject(self, subject: &str) -> Result<Self, CpimError> {
+        self.with(raw::with_subject, subject)
+    }
+
+    /// Sets the Subject header with a language tag.
+    pub fn with_subject_lang(self, subject: &str, lang: &str) -> Result<Self, CpimError> {
+        self.with_two(raw::with_subject_lang, subject, lang)
+    }
+
+    /// Adds a cc (courtesy copy) recipient.
+    pub fn with_cc(self, cc: &str) -> Result<Self, CpimError> {
+        self.with(raw::with_cc, cc)
+    }
+
+    /// Adds a namespace declaration.
+    pub fn with_ns(self, prefix: &str, uri: &str) -> Result<Self, CpimError> {
+        self.with_two(raw::with_ns, prefix, uri)
+    }
+
+    /// Adds a Require header.
+    pub fn with_require(self, feature: &str) -> Result<Self, CpimError> {
+        self.with(raw::with_require, feature)
+    }
+
+    /// Adds a content header (e.g., Content-ID, Content-Disposition).
+    pub fn with_content_header(self, name: &str, value: &str) -> Result<Self, CpimError> {
+        self.with_two(raw::with_content_header, name, value)
+    }
+
+    /// Adds a content header (e.g., Content-ID, Content-Disposition).
+    pub fn add_content_header(&mut self, name: &str, value: &str) -> Result<(), CpimError> {
+        self.change(|m, head| raw::add_content_header(m, head, name.as_bytes(), value.as_bytes()))
+    }
+
+    /// Sets a header, replacing any existing values.
+    pub fn set_header(&mut self, name: &str, value: &str) -> Result<(), CpimError> {
+        self.change(|m, head| raw::set_header(m, head, name.as_bytes(), value.as_bytes()))
+    }
+
+    /// Adds a header value (allows multiple values for the same header).
+    pub fn add_header(&mut self, name: &str, value: &str) -> Result<(), CpimError> {
+        self.change(|m, head| raw::add_header(m, head, name.as_bytes(), value.as_bytes()))
+    }
+
+    /// Adds a header object.
+    pub fn add_header_obj(&mut self, name: &str, header: CpimHeader) -> Result<(), CpimError> {
+        self.change(|m, head| raw::add_header_obj(m, head, name.as_bytes(), header.record(), header.store()))
+    }
+
+    /// Gets the first value of a header.
+    pub fn get_header(&self, name: &str) -> Option<&str> {
+        self.places().named(name).next().map(|e| e.value())
+    }
+
+    /// Gets all values of a header.
+    pub fn get_header_values(&self, name: &str) -> Vec<&str> {
+        self.places().named(name).map(|e| e.value()).collect()
+    }
+
+    /// Gets the message body as a UTF-8 string slice, if valid.
+    ///
+    /// This is the preferred method as it avoids cloning the body.
+    pub fn body_as_str(&self) -> Result<&str, std::str::Utf8Error> {
+        std::str::from_utf8(&self.body)
+    }
+
+    /// Gets the message body as a UTF-8 String, if valid.
+    ///
+    /// Note: This clones the body. Prefer `body_as_str()` when possible.
+    pub fn body_as_string(&self) -> Option<String> {
+        self.body_as_str().ok().map(str::to_owned)
+    }
+
+    /// Formats the CPIM message as a string.
+    pub fn to_string(&self) -> Result<String, CpimError> {
+        // A header or content header is written in fewer bytes than it is stored in, unless much of it is escaped; the rest is 50 bytes, the
+        // type and the body, unless that is not UTF-8. Where more is needed, 26 says how much.
+        let mut out =
+            vec![0; 50 + self.record.typelen + self.record.headerlen + self.record.contentlen + self.body.len()];
+        loop {
+            match raw::to_string(self.record, &self.head, &self.body, &mut out).accepted() {
+                Ok(len) => {
+                    out.truncate(len);
+                    return Ok(String::from_utf8(out).expect("a message's text is UTF-8"));
+                }
+                Err(Refusal { number: 26, carried }) if carried as usize > out.len() => out = vec![0; carried as usize],
+                Err(refusal) => return Err(refusal.into()),
+            }
+        }
+    }
+
+    /// Whether reading the message's text gives this very message. Proved: yes exactly when it does.
+    pub fn comes_back(&self) -> bool {
+        raw::comes_back(self.record, &self.head, &self.body)
+    }
+
+    /// What is lost first where the message does not come back from its text.
+    pub fn loss(&self) -> Option<Loss<'_>> {
+        Loss::of(self.record, &self.head, &self.body)
+    }
+
+    fn places(&self) -> Places<'_> {
+        let Record { headers, contents, .. } = self.record;
+        let rows = || rows_of(headers + contents, |out| places(self.record, &self.head, out));
+        Places::known(self.record, &self.head, self.views.rows.get_or_init(rows))
+    }
+
+    /// A changing call; the head store grows as far as the call asks for, at least to the double.
+    fn change(&mut self, call: impl Fn(Record, &mut [u8]) -> Answer<Record>) -> Result<(), CpimError> {
+        loop {
+            let room = self.head.len();
+            match call(self.record, &mut self.head).accepted() {
+                Ok(record) => {
+                    self.record = record;
+                    self.views = Views::default();
+                    return Ok(());
+                }
+                Err(Refusal { number: 25, carried }) if carried as usize > room => {
+                    self.head.resize((2 * room).min(MOST_HEAD).max(carried as usize), 0);
+                }
+                Err(refusal) => return Err(refusal.into()),
+            }
+        }
+    }
+
+    fn with(mut self, call: raw::One, value: &str) -> Result<Self, CpimError> {
+        self.change(|m, head| call(m, head, value.as_bytes()))?;
+        Ok(self)
+    }
+
+    fn with_two(mut self, call: raw::Two, first: &str, second: &str) -> Result<Self, CpimError> {
+        self.change(|m, head| call(m, head, first.as_bytes(), second.as_bytes()))?;
+        Ok(self)
+    }
+
+    fn held(&self) -> &[u8] {
+        &self.head[..self.record.need()]
+    }
+}
+
+impl Clone for CpimMessage {
+    fn clone(&self) -> Self {
+        let (record, head, body) = (self.record, self.held().to_vec(), self.body.clone());
+        CpimMessage { record, head, body, views: Views::default() }
+    }
+}
+
+/// The bytes are a function of the message.
+impl PartialEq for CpimMessage {
+    fn eq(&self, other: &Self) -> bool {
+        self.record == other.record && self.held() == other.held() && self.body == other.body
+    }
+}
+
+impl fmt::Debug for CpimMessage {
+    fn fmt(&self, f: &mut fmt::Formatter<'_>) -> fmt::Result {
+        f.debug_struct("CpimMessage")
+            .field("headers", self.headers())
+            .field("content_type", &self.content_type())
+            .field("content_headers", self.content_headers())
+            .field("body", &self.body)
+            .finish()
+    }
+}
+
+impl fmt::Display for CpimMessage {
+    fn fmt(&self, f: &mut fmt::Formatter<'_>) -> fmt::Result {
+        f.write_str(&self.to_string().map_err(|_| fmt::Error)?)
+    }
+}
