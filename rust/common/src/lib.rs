@@ -1,5 +1,6 @@
 //! What the programs that compare with Rust have in common.
 
+pub mod measure;
 mod random;
 mod words;
 mod work;

@@ -1,8 +1,8 @@
 //! A header with its parameters.
 
 use crate::error::{CpimError, Refusal};
-use crate::places::{header_places, rows_of, text, Entries, Entry};
-use crate::raw::{self, Answer, HeaderRecord};
+use crate::places::{header_places, rows_of, Entries, Entry};
+use crate::raw::{self, text, Answer, HeaderRecord};
 use crate::text::SmolStr;
 use std::collections::BTreeMap;
 use std::fmt;

@@ -25,8 +25,8 @@ pub use crate::raw::{HeaderRecord, Record};
 
 use crate::error::Refusal;
 use crate::loss::Loss;
-use crate::places::{header_places, text};
-use crate::raw;
+use crate::places::header_places;
+use crate::raw::{self, text};
 
 /// A message in lent stores.
 pub struct Message<'a> {

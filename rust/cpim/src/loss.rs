@@ -1,7 +1,7 @@
 //! What of a message its text does not give back.
 
 use crate::places::{Places, MOST};
-use crate::raw::{self, Record};
+use crate::raw::{self, text, Record};
 use std::fmt;
 
 /// Why a message does not come back from its text: the first clause of demand 3 that fails (crates/whole/specs/Loss.antt), and for which header
@@ -52,7 +52,7 @@ fn name(record: Record, head: &[u8], n: usize) -> &str {
     let places = Places::find(record, head, &mut rows).expect("the places of what is held");
     let all = places.headers().chain(places.content_headers());
     let at = all.map(|e| e.name_at()).nth(n).expect("an entry of the message");
-    crate::places::text(&head[at])
+    text(&head[at])
 }
 
 impl fmt::Display for Loss<'_> {

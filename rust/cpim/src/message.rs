@@ -3,8 +3,8 @@
 use crate::error::{CpimError, Refusal, MAX_BODY_SIZE};
 use crate::header::{pairs, CpimHeader};
 use crate::loss::Loss;
-use crate::places::{places, rows_of, text, Places};
-use crate::raw::{self, Answer, Record};
+use crate::places::{places, rows_of, Places};
+use crate::raw::{self, text, Answer, Record};
 use crate::text::SmolStr;
 use std::collections::BTreeMap;
 use std::fmt;
@@ -189,7 +189,7 @@ impl CpimMessage {
 
     /// Gets the first value of a header.
     pub fn get_header(&self, name: &str) -> Option<&str> {
-        self.places().named(name).next().map(|e| e.value())
+        self.places().first(name).map(|e| e.value())
     }
 
     /// Gets all values of a header.

@@ -2,7 +2,7 @@
 //! name, of the value behind it, and how many parameters), behind each header the rows of its parameters.
 
 use crate::error::{Refusal, MAX_CONTENT_HEADERS, MAX_HEADERS, MAX_PARAMS_PER_HEADER};
-use crate::raw::{HeaderRecord, Numbers, Record};
+use crate::raw::{text, HeaderRecord, Numbers, Record};
 use std::ops::Range;
 
 /// How many numbers a row has.
@@ -93,11 +93,6 @@ pub(crate) fn rows_of(guess: usize, places: impl Fn(&mut [usize]) -> Numbers) ->
             refused => unreachable!("places in what is held: {refused:?}"),
         }
     }
-}
-
-/// What is held in a store is UTF-8.
-pub(crate) fn text(bytes: &[u8]) -> &str {
-    std::str::from_utf8(bytes).expect("what is held is UTF-8")
 }
 
 /// A header, parameter or content header where it stands.
@@ -217,7 +212,19 @@ impl<'a> Places<'a> {
     where
         'a: 'n,
     {
-        let is = move |e: &Entry| e.name_bytes() == name.as_bytes();
-        self.headers().skip_while(move |e| !is(e)).take_while(is)
+        self.headers().filter(move |e| e.name_bytes() == name.as_bytes())
+    }
+
+    /// The first header of a name.
+    pub fn first(self, name: &str) -> Option<Entry<'a>> {
+        let mut rows = self.rows;
+        for _ in 0..self.record.headers {
+            let &[start, len, _, params, ..] = rows else { return None };
+            if len == name.len() && self.head.get(start..start + len)? == name.as_bytes() {
+                return Some(Entry { store: self.head, rows });
+            }
+            rows = rows.get(ROW * (1 + params)..)?;
+        }
+        None
     }
 }

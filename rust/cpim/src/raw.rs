@@ -225,3 +225,13 @@ pub fn run(script: &[u8], m: Record, head: &mut [u8], body: &mut [u8]) -> Record
     let (s, h, b) = (script, head, body);
     unsafe { cpim_run(s.as_ptr(), s.len(), m, h.as_mut_ptr(), h.len(), b.as_mut_ptr(), b.len()) }
 }
+
+/// Bytes of a store that are UTF-8, as a name, a value and a type that is held is.
+pub(crate) fn text(bytes: &[u8]) -> &str {
+    if bytes.is_ascii() {
+        // SAFETY: ASCII is UTF-8. To find that takes a third of the time of the test for UTF-8.
+        unsafe { std::str::from_utf8_unchecked(bytes) }
+    } else {
+        std::str::from_utf8(bytes).expect("what is held is UTF-8")
+    }
+}

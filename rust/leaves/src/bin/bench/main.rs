@@ -1,7 +1,6 @@
 //! What the leaves cost, as ratios to Rust's standard library or to the source. The program starts itself three times, each time
 //! anew with all rows, and prints the lowest and the highest ratio in Markdown; one above a goal is in bold.
 
-mod measure;
 mod rows;
 mod texts;
 

@@ -1,7 +1,7 @@
 //! What is measured.
 
-use crate::measure::both;
 use crate::texts::*;
+use common::measure::both;
 use leaves::*;
 use source::cpim::{open_escape_header_value, open_unescape_header_value};
 use std::str::from_utf8;

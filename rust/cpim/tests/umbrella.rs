@@ -1,0 +1,131 @@
+//! The notice of a found umbrella: the depot is a parameter of a header.
+
+use cpim::lent::{self, Header, Message};
+use cpim::{parse_cpim, CpimError, CpimHeader, CpimMessage, Loss, Refusal};
+
+fn notice() -> CpimMessage {
+    let m = CpimMessage::new("text/plain", b"Handle of wood.".to_vec()).unwrap();
+    m.with_from("<im:north@depots.example>").unwrap().with_datetime("2026-03-02T08:15:00Z").unwrap()
+}
+
+#[test]
+fn a_depot_in_a_parameter_does_not_come_back() {
+    let mut m = notice();
+    assert!(m.comes_back());
+    assert_eq!(m.loss(), None);
+    assert_eq!(parse_cpim(&m.to_string().unwrap()).unwrap(), m);
+
+    let umbrella = CpimHeader::new("Black umbrella").unwrap().with_param("depot", "north").unwrap();
+    m.add_header_obj("Subject", umbrella).unwrap();
+    assert!(!m.comes_back());
+    assert_eq!(m.loss(), Some(Loss::Parameter { header: 2, name: "Subject" }));
+    assert_eq!(m.loss().unwrap().to_string(), "header 2 (Subject) has a parameter, and the text is read without it");
+    let read = parse_cpim(&m.to_string().unwrap()).unwrap();
+    assert_eq!(read.get_header("Subject"), Some(";depot=north Black umbrella"));
+    assert!(read.headers()["Subject"][0].params().is_empty());
+}
+
+#[test]
+fn each_clause_in_words() {
+    let with = |name: &str, value: &str| {
+        let mut m = notice();
+        m.set_header(name, value).unwrap();
+        m
+    };
+    let content = |name: &str, value: &str| notice().with_content_header(name, value).unwrap();
+    let bare = CpimMessage::new("text/plain", Vec::new()).unwrap();
+    let mut ill = notice();
+    ill.set_body(vec![0xFF]).unwrap();
+    let typed = CpimMessage::new("text/plain ", Vec::new()).unwrap().with_from("a").unwrap();
+    let cases = [
+        (bare, Loss::NoHeader, "there is no header"),
+        (ill, Loss::Body, "the body is not UTF-8"),
+        (
+            content("CONTENT-type", "a"),
+            Loss::ContentTypeTwice { content_header: 0, name: "CONTENT-type" },
+            "content header 0",
+        ),
+        (with("To ", "a"), Loss::HeaderName { header: 2, name: "To " }, "header 2 (To ) has white space"),
+        (content("a", "b "), Loss::ContentHeader { content_header: 0, name: "a" }, "content header 0 (a)"),
+        (typed, Loss::ContentType, "the content type has white space"),
+        (with("To", " a"), Loss::HeaderValue { header: 2, name: "To" }, "header 2 (To) has white space"),
+    ];
+    for (m, loss, words) in cases {
+        assert_eq!(m.loss(), Some(loss));
+        assert!(loss.to_string().starts_with(words), "{loss}");
+        assert!(!m.comes_back());
+    }
+}
+
+#[test]
+fn a_store_that_grows_keeps_the_message() {
+    let mut m = notice();
+    for k in 0..48 {
+        m.add_header(&format!("h{k}"), &"v".repeat(1_024)).unwrap();
+    }
+    assert_eq!(m.add_header("h", "v"), Err(CpimError::TooManyHeaders { max: 50, actual: 51 }));
+    assert_eq!(m.headers().len(), 50);
+    assert_eq!(m.get_header("h17").map(str::len), Some(1_024));
+    assert_eq!(parse_cpim(&m.to_string().unwrap()).as_ref(), Ok(&m));
+    assert_eq!(m.clone(), m);
+    assert_eq!(format!("{m}"), m.to_string().unwrap());
+}
+
+#[test]
+fn refusals_say_their_number() {
+    let e = CpimHeader::new("a").unwrap().with_param(&"n".repeat(65), "").unwrap_err();
+    assert_eq!((e.number(), e.carried()), (13, 65));
+    assert_eq!(e.to_string(), "param name too long (max 64, got 65)");
+    assert_eq!(e.refusal().to_string(), "13: parameter name too long (64 bytes at most, 65 given)");
+    assert_eq!(
+        Refusal { number: 7, carried: 129 }.to_string(),
+        "7: header name too long (128 bytes at most, 129 given)"
+    );
+    for number in 1..=23 {
+        let carried = if [1, 7, 10, 13, 15, 18, 20, 21, 22, 23].contains(&number) { 99 } else { 0 };
+        let refusal = Refusal { number, carried };
+        assert_eq!(CpimError::from(refusal).refusal(), refusal);
+    }
+}
+
+#[test]
+fn lent_stores() {
+    let (mut head, mut body, mut store) = ([0; 1_000], [0; 100], [0; 100]);
+    let mut h = Header::new(b"Black umbrella", &mut store).unwrap();
+    h.with_param(b"depot", b"north").unwrap();
+    h.with_param(b"line", b"4").unwrap();
+    assert_eq!(h.value(), "Black umbrella");
+    let mut rows = [0; lent::MOST_ALONE];
+    let params: Vec<_> = h.params(&mut rows).unwrap().map(|p| (p.name(), p.value())).collect();
+    assert_eq!(params, [("depot", "north"), ("line", "4")]);
+
+    let mut m = Message::new(b"text/plain", b"Hi", &mut head, &mut body).unwrap();
+    m.with_from(b"a").unwrap();
+    m.add_header_obj(b"Subject", &h).unwrap();
+    m.add_header(b"Subject", b"b").unwrap();
+    m.add_content_header(b"Content-ID", b"7").unwrap();
+    assert_eq!((m.get_header("Subject"), m.nth_header("Subject", 1)), (Some("Black umbrella"), Some("b")));
+    assert_eq!((m.nth_header("Subject", 2), m.get_header("To")), (None, None));
+    let mut rows = [0; lent::MOST];
+    let places = m.places(&mut rows).unwrap();
+    assert_eq!(places.headers().map(|e| e.params().count()).collect::<Vec<_>>(), [0, 2, 0]);
+    assert_eq!(places.content_headers().map(|e| (e.name(), e.value())).collect::<Vec<_>>(), [("Content-ID", "7")]);
+    assert_eq!(m.places(&mut []).err(), Some(Refusal { number: 26, carried: 24 }));
+    assert_eq!(m.loss(), Some(Loss::Parameter { header: 1, name: "Subject" }));
+    assert_eq!((m.content_type(), m.body()), ("text/plain", &b"Hi"[..]));
+
+    let record = m.record();
+    assert_eq!(Message::held(record, &mut head, &mut body).map(|m| m.record()), Ok(record));
+    head[256] ^= 1;
+    assert_eq!(Message::held(record, &mut head, &mut body).err(), Some(Refusal { number: 25, carried: 0 }));
+}
+
+#[test]
+fn a_body_without_a_store() {
+    let crlf = "message/cpim\r\n\r\na:b\r\n\r\n\r\n\r\nx\r\n\r\ny";
+    assert_eq!(lent::body_of(crlf.as_bytes(), &mut []), Ok(&b"x\r\n\r\ny"[..]));
+    let lf = crlf.replace('\r', "");
+    assert_eq!(lent::body_of(lf.as_bytes(), &mut [0; 9]), Ok(&b"x\r\n\r\ny"[..]));
+    assert_eq!(lent::body_of(lf.as_bytes(), &mut [0; 5]), Err(Refusal { number: 26, carried: 6 }));
+    assert_eq!(lent::body_of(b"a", &mut []), Err(Refusal { number: 2, carried: 0 }));
+}
