@@ -1,10 +1,13 @@
-//! What the programs share that run the calls, reading and writing beside the source: the layout of a message, the table of refusals, lent
-//! stores, names and values, texts.
+//! What the programs share that run the calls, reading and writing beside the source: calls and what the source makes of them, the layout of a
+//! message, the table of refusals, what comes back, lent stores, names and values, texts.
 
+pub mod call;
 pub mod damage;
 pub mod exports;
 pub mod grammar;
 pub mod layout;
 pub mod names;
+pub mod random_calls;
 pub mod refusals;
 pub mod store;
+pub mod whole;

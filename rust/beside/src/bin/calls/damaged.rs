@@ -1,8 +1,8 @@
 //! Stores and records with something altered: a call answers by what they then hold, or with 25 carrying 0, and changes no byte.
 
-use crate::call::{Call, Lengths};
 use crate::samples::{battery, header_battery, samples};
 use crate::stores::Stores;
+use beside::call::{Call, Lengths};
 use beside::layout::{held, held_alone, need, need_alone};
 use common::Random;
 use cpim::raw::{HeaderRecord, Record};

@@ -1,10 +1,10 @@
 //! The longest body, the largest message, and one more.
 
-use crate::call::{Call, Function::*, Lengths};
 use crate::lists::{step, Room};
-use crate::random_calls::any;
 use crate::stores::Stores;
+use beside::call::{Call, Function::*, Lengths};
 use beside::names::Kind;
+use beside::random_calls::any;
 use common::Random;
 
 /// Bodies at the limit and one past it.

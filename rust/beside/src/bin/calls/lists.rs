@@ -1,10 +1,10 @@
 //! Random lists of calls on stores of lengths around what is needed.
 
-use crate::call::{Call, Function, Function::*, Lengths};
-use crate::random_calls::{any, new, of};
 use crate::stores::Stores;
+use beside::call::{Call, Function, Function::*, Lengths};
 use beside::layout::{need, need_alone};
 use beside::names::Kind;
+use beside::random_calls::{any, new, of};
 use common::Random;
 
 /// How long the stores lent to a list are.

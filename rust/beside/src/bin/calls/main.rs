@@ -1,15 +1,12 @@
 //! Lists of calls on a message and a header in lent stores beside the source. Prints how many calls were accepted and how often
 //! each refusal came; the first difference ends it with a failure and the list of calls.
 
-mod call;
 mod damaged;
 mod largest;
 mod lists;
-mod random_calls;
 mod samples;
 mod scripts;
 mod stores;
-mod whole;
 
 use beside::exports::{all_compared, BY_CALLS, BY_LISTS};
 use common::{grouped, in_parts};

@@ -1,6 +1,6 @@
 //! Small messages to be damaged, and the calls that are then tried on them.
 
-use crate::call::{Call, Function, Function::*};
+use beside::call::{Call, Function, Function::*};
 
 fn call(function: Function, first: &str, second: &str) -> Call {
     Call { function, first: first.into(), second: second.into() }

@@ -1,10 +1,10 @@
 //! Lists of calls as scripts (crates/script/specs/Script.antt): run at once, and the same calls one by one.
 
-use crate::call::{Call, Function::*, Lengths};
 use crate::lists::{step, Room};
-use crate::random_calls::{any, new};
 use crate::stores::Stores;
+use beside::call::{Call, Function, Function::*, Lengths};
 use beside::names::Kind;
+use beside::random_calls::{any, new};
 use common::Random;
 use cpim::raw;
 
@@ -19,7 +19,7 @@ fn put_argument(script: &mut Vec<u8>, s: &[u8]) {
 
 /// The call behind those of the script; the header is the one that stands in its store.
 fn put_call(script: &mut Vec<u8>, call: &Call, stores: &Stores, lengths: Lengths) {
-    const ORDER: [crate::call::Function; 14] = [
+    const ORDER: [Function; 14] = [
         SetBody,
         SetHeader,
         AddHeader,

@@ -1,11 +1,11 @@
 //! Stores lent to both sides: what the call leaves here is held against what it must leave, byte by byte.
 
-use crate::call::{Call, Function::*, Lengths};
-use crate::whole::{comes_back, loss};
+use beside::call::{Call, Function::*, Lengths};
 use beside::exports::BY_CALLS;
 use beside::layout::{decode, layout, layout_alone, need, need_alone, record, record_alone};
 use beside::refusals::{Refusal, NOTHING_HELD};
 use beside::store::Store;
+use beside::whole::{comes_back, loss};
 use common::Random;
 use cpim::raw::{self, Answer, HeaderRecord, Loss, Record};
 use source::cpim::{CpimHeader, CpimMessage};

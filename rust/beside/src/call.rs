@@ -1,7 +1,7 @@
 //! A call with its arguments, and what document 01 makes of the source's answer to it.
 
-use beside::layout::{need, need_alone};
-use beside::refusals::{number, text, Refusal, NOTHING_HELD};
+use crate::layout::{need, need_alone};
+use crate::refusals::{number, text, Refusal, NOTHING_HELD};
 use source::cpim::{CpimHeader, CpimMessage};
 
 /// The functions in the order of `BY_CALLS`.

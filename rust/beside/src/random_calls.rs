@@ -1,7 +1,7 @@
 //! Calls drawn at random.
 
 use crate::call::{Call, Function, Function::*};
-use beside::names::Kind;
+use crate::names::Kind;
 use common::Random;
 
 pub fn new(random: &mut Random, kind: Kind) -> Call {

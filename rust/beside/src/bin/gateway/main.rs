@@ -1,0 +1,127 @@
+//! The gateway's crate beside the source: lists of calls and texts, both sides through the same lines of code. Prints how many answers were compared;
+//! the first difference ends it with a failure.
+
+mod long;
+mod side;
+
+use beside::call::Call;
+use beside::names::Kind;
+use beside::{damage, grammar, random_calls, refusals, whole};
+use common::{grouped, in_parts, Random};
+use side::{here, there};
+use std::fmt::Debug;
+use std::process::exit;
+
+const PARTS: usize = 64;
+const LISTS: usize = 30;
+const TEXTS: usize = 150;
+const NAMES: [&str; 8] = ["From", "To", "Subject", "a", "h1", "é", "", "Content-ID"];
+
+#[derive(Default)]
+struct Both {
+    here: here::Side,
+    there: there::Side,
+    /// What led to this.
+    trace: Vec<String>,
+    answers: u64,
+    refused: [u64; 27],
+}
+
+impl Both {
+    #[cold]
+    fn differ(&self, what: &str, here: &dyn Debug, there: &dyn Debug) -> ! {
+        let trace = self.trace.join("\n");
+        eprintln!("{what} differs from the source.\n{trace}\nhere: {here:?}\nRust: {there:?}");
+        exit(1)
+    }
+
+    fn same<T: PartialEq + Debug>(&mut self, what: &str, here: T, there: T) {
+        if here != there {
+            self.differ(what, &here, &there);
+        }
+        self.answers += 1;
+    }
+
+    fn answered(&mut self, here: Result<(), cpim::CpimError>, there: Result<(), source::cpim::CpimError>) {
+        let here = here.map_err(|e| (e.to_string(), format!("{e:?}"), (e.number(), e.carried())));
+        let there = there.map_err(|e| (e.to_string(), format!("{e:?}"), refusals::number(e)));
+        self.refused[there.as_ref().map_or_else(|e| e.2 .0, |()| 0) as usize] += 1;
+        self.same("An answer", here, there);
+    }
+
+    /// Everything that can be seen of the message, and whether it comes back.
+    fn look(&mut self) {
+        let (here, there) = (self.here.seen(&NAMES), self.there.seen(&NAMES));
+        self.same("What is seen", here, there);
+        if let (Some(m), Some(k)) = (&self.here.message, &self.there.message) {
+            let (here, there) = ((m.comes_back(), m.loss().is_none()), whole::comes_back(k));
+            self.same("What comes back", here, (there, there));
+        }
+    }
+
+    fn call(&mut self, call: &Call) {
+        self.trace.push(format!("{call:?}"));
+        let (here, there) = (self.here.call(call), self.there.call(call));
+        self.answered(here, there);
+        self.look();
+    }
+
+    fn parse(&mut self, text: &str) {
+        let shown: String = text.chars().take(3_000).collect();
+        self.trace.push(format!("{shown:?} ({} bytes)", text.len()));
+        let (here, there) = (self.here.parse(text), self.there.parse(text));
+        self.answered(here, there);
+        self.look();
+    }
+
+    /// A new list.
+    fn begin(&mut self) {
+        self.here = here::Side::default();
+        self.there = there::Side::default();
+        self.trace.clear();
+    }
+}
+
+fn list(both: &mut Both, random: &mut Random) {
+    let kind = Kind { odd: random.pick(&[4, 8, 16]), long: random.once_in(5) };
+    both.call(&random_calls::new(random, kind));
+    for _ in 0..random.below(40) {
+        both.call(&random_calls::any(random, kind, &[]));
+    }
+}
+
+fn text(both: &mut Both, random: &mut Random) {
+    let mut text = grammar::text(random);
+    if random.once_in(2) {
+        damage::damage(random, &mut text);
+    }
+    both.parse(&String::from_utf8_lossy(&text));
+    for _ in 0..random.below(4) {
+        both.call(&random_calls::any(random, Kind { odd: 8, long: false }, &[]));
+    }
+}
+
+fn main() {
+    let part = |both: &mut Both, k: usize| {
+        if k == 0 {
+            return long::texts(both);
+        }
+        for n in 0..LISTS + TEXTS {
+            let mut random = Random::new((k * (LISTS + TEXTS) + n) as u64);
+            both.begin();
+            if n < LISTS {
+                list(both, &mut random);
+            } else {
+                text(both, &mut random);
+            }
+        }
+    };
+    let all = in_parts(PARTS, Both::default, part);
+    let answers: u64 = all.iter().map(|b| b.answers).sum();
+    let refused: Vec<u64> = (0..27).map(|k| all.iter().map(|b| b.refused[k]).sum()).collect();
+    if refused[..24].contains(&0) {
+        eprintln!("an answer was never seen: {refused:?}");
+        exit(1);
+    }
+    println!("The gateway's crate beside Rust: {} answers, no difference", grouped(answers));
+}
