@@ -1,5 +1,5 @@
 # `make` proves everything and prints what is proved of the whole; `make test` is the gate.
-.PHONY: prove test compare bench format library calls rt cargo
+.PHONY: prove test compare bench format library calls gateway notice rt cargo
 
 # More jobs than a machine of two cores has: crates of one level, and edits, wait for the slowest among them.
 export RT_JOBS ?= 4
@@ -16,15 +16,29 @@ test: compare
 	@rt fmt --check
 	@rt ci
 
-# The leaves beside Rust's standard library and the source; lists of calls, and texts read and written, beside the source.
-compare: cargo library calls
+# The leaves beside Rust's standard library and the source; lists of calls, and texts read and written, beside the source; the gateway's crate.
+compare: cargo library calls gateway notice
 	@cargo run --release --offline --quiet --manifest-path rust/Cargo.toml --bin compare
 	@cargo run --release --offline --quiet --manifest-path rust/Cargo.toml --bin calls
 	@cargo run --release --offline --quiet --manifest-path rust/Cargo.toml --bin texts
+	@cargo run --release --offline --quiet --manifest-path rust/Cargo.toml --bin gateway
 
-# What the leaves cost, as ratios (docs/BENCHMARKS.md).
-bench: cargo library
+# The gateway's crate by itself: its tests and the examples in its comments; and the C header.
+gateway: cargo calls
+	@for tests in '-p cpim' '-p beside --test c_header'; do \
+	  out=$$(cargo test --offline --quiet --manifest-path rust/Cargo.toml $$tests 2>&1) || { printf '%s\n' "$$out"; exit 1; }; \
+	done
+
+# A program in C on the header and the library: what it prints is examples/notice.out.
+notice: calls
+	@command -v cc >/dev/null || { echo "cc is not on the PATH: the example in C needs a C compiler"; exit 1; }
+	@cc -std=c99 -Wall -Wextra -Wpedantic -Werror -Icrates/cpim examples/notice.c target/staticlib/libcpim.a -o target/notice
+	@target/notice | cmp - examples/notice.out
+
+# What the leaves and the gateway's crate cost, as ratios (docs/BENCHMARKS.md).
+bench: cargo library calls
 	@cargo run --release --offline --quiet --manifest-path rust/Cargo.toml --bin bench
+	@cargo run --release --offline --quiet --manifest-path rust/Cargo.toml --bin times
 
 # What rt prints besides its progress is shown where it fails.
 library: rt

@@ -1,6 +1,6 @@
 //! A message in stores of its own; every answer about it is one of the proved functions'.
 
-use crate::error::{CpimError, Refusal, MAX_BODY_SIZE};
+use crate::error::{CpimError, Refusal};
 use crate::header::{pairs, CpimHeader};
 use crate::loss::Loss;
 use crate::places::{places, rows_of, Places};
@@ -13,9 +13,7 @@ use std::sync::OnceLock;
 /// The head store that a new message starts with: room for some headers.
 const FIRST_HEAD: usize = 1_024;
 /// No message needs more.
-const MOST_HEAD: usize = 250_016;
-/// Room to spare up to this is not given back.
-const SPARE: usize = 4_096;
+pub(crate) const MOST_HEAD: usize = 250_016;
 
 /// A CPIM message containing headers and content.
 ///
@@ -38,41 +36,12 @@ struct Views {
     contents: OnceLock<BTreeMap<SmolStr, SmolStr>>,
 }
 
-/// Gives back most of the room of a store that was lent far more than the `used` bytes.
-fn shrink(store: &mut Vec<u8>, used: usize) {
-    if store.capacity() - used > used + SPARE {
-        store.truncate(used);
-        store.shrink_to_fit();
-    }
-}
-
-/// Parses a CPIM message from a string.
-pub fn parse_cpim(input: &str) -> Result<CpimMessage, CpimError> {
-    // Room for any text of that length: an entry takes 14 bytes of the head store more than of the text, where it has 3 or more (`;a=`, or
-    // `a:` and a line end); a body that is joined takes 4 bytes for each LFLF. So neither 25 nor 26 comes.
-    let mut head = vec![0; MOST_HEAD.min(256 + 6 * input.len())];
-    let mut body = vec![0; MAX_BODY_SIZE.min(2 * input.len())];
-    loop {
-        match raw::parse(input.as_bytes(), &mut head, &mut body).accepted() {
-            Ok(record) => {
-                shrink(&mut head, record.need());
-                shrink(&mut body, record.bodylen);
-                body.truncate(record.bodylen);
-                return Ok(CpimMessage { record, head, body, views: Views::default() });
-            }
-            Err(Refusal { number: 25, carried }) if carried as usize > head.len() => head.resize(carried as usize, 0),
-            Err(Refusal { number: 26, carried }) if carried as usize > body.len() => body.resize(carried as usize, 0),
-            Err(refusal) => return Err(refusal.into()),
-        }
-    }
-}
-
 impl CpimMessage {
     /// Creates a new CPIM message with the given content type and body.
     pub fn new(content_type: &str, body: Vec<u8>) -> Result<Self, CpimError> {
         let mut head = vec![0; FIRST_HEAD];
         let record = raw::new(content_type.as_bytes(), &[], &mut head, &mut []).accepted()?;
-        let mut m = CpimMessage { record, head, body: Vec::new(), views: Views::default() };
+        let mut m = CpimMessage::of(record, head, Vec::new());
         m.set_body(body)?;
         Ok(m)
     }
@@ -239,6 +208,11 @@ impl CpimMessage {
         Loss::of(self.record, &self.head, &self.body)
     }
 
+    /// What record and stores hold; the body has its store to itself.
+    pub(crate) fn of(record: Record, head: Vec<u8>, body: Vec<u8>) -> Self {
+        CpimMessage { record, head, body, views: Views::default() }
+    }
+
     fn places(&self) -> Places<'_> {
         let Record { headers, contents, .. } = self.record;
         let rows = || rows_of(headers + contents, |out| places(self.record, &self.head, out));
@@ -280,8 +254,7 @@ impl CpimMessage {
 
 impl Clone for CpimMessage {
     fn clone(&self) -> Self {
-        let (record, head, body) = (self.record, self.held().to_vec(), self.body.clone());
-        CpimMessage { record, head, body, views: Views::default() }
+        CpimMessage::of(self.record, self.held().to_vec(), self.body.clone())
     }
 }
 

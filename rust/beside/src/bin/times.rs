@@ -9,7 +9,7 @@ const NOTICE: &str = "Content-type: Message/CPIM\r\n\r\n\
     Subject: Black umbrella, wooden handle\r\n\
     NS: Depot <urn:example:depots>\r\n\r\n\
     Content-type: text/plain; charset=utf-8\r\n\
-    Content-ID: <4711@depots.example>\r\n\r\n\
+    Content-ID: <7@depots.example>\r\n\r\n\
     A black umbrella with a wooden handle was found on line 4 today, in the last car";
 
 fn long(separator: &str) -> String {

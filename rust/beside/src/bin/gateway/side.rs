@@ -1,11 +1,13 @@
 //! What a gateway does with the crate: the same lines for both sides, but for the one that says where the names come from.
 
+type Pairs = Vec<(String, String)>;
+
 /// All that can be seen of a message, and what else was compared with it.
 #[derive(Debug, Default, PartialEq)]
 pub struct Seen {
     /// Name, value and parameters of each header.
-    pub headers: Vec<(String, String, Vec<(String, String)>)>,
-    pub contents: Vec<(String, String)>,
+    pub headers: Vec<(String, String, Pairs)>,
+    pub contents: Pairs,
     pub content_type: String,
     pub body: Vec<u8>,
     pub body_as_str: Option<String>,

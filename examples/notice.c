@@ -1,0 +1,56 @@
+/* Reads a notice, prints who it is from, sets a header, and writes it: C on the functions of crates/cpim/cpim.h. `make compare` runs it. */
+#include "cpim.h"
+
+#include <stdio.h>
+#include <string.h>
+
+static const char notice[] =
+    "Content-type: Message/CPIM\r\n\r\n"
+    "From: North depot <im:north@depots.example>\r\n"
+    "DateTime: 2026-03-02T08:15:00Z\r\n\r\n"
+    "Content-type: text/plain\r\n\r\n"
+    "A black umbrella hangs in the sorting room.";
+
+static uint8_t head[1000], body[1000], out[1000];
+
+/* Text as the place and length that a slice crosses as. */
+#define TEXT(s) (const uint8_t *)(s), strlen(s)
+
+static int refused(const char *call, uint64_t number, uint64_t carried) {
+    fprintf(stderr, "%s: refused by %llu carrying %llu\n", call, (unsigned long long)number, (unsigned long long)carried);
+    return 1;
+}
+
+/* An entry of the head store (crates/format/specs/Layout.antt): 16 bytes of numbers, its name, its value, its parameters. */
+static void print_header(cpim_message_t m, const char *name) {
+    const uint8_t *at = head + 256;
+    for (size_t k = 0; k < m.headers; k++) {
+        size_t name_len = at[0], value_len = at[1] + 256 * at[2], params = at[4] + 256 * at[5];
+        const uint8_t *value = at + 16 + name_len;
+        if (name_len == strlen(name) && memcmp(at + 16, name, name_len) == 0)
+            printf("%s is: %.*s\n", name, (int)value_len, (const char *)value);
+        at = value + value_len + params;
+    }
+}
+
+int main(void) {
+    cpim_answer_t a = cpim_parse(TEXT(notice), head, sizeof head, body, sizeof body);
+    if (a.number != 0)
+        return refused("cpim_parse", a.number, a.carried);
+    print_header(a.message, "From");
+
+    a = cpim_set_header(a.message, head, sizeof head, TEXT("Subject"), TEXT("Black umbrella"));
+    if (a.number != 0)
+        return refused("cpim_set_header", a.number, a.carried);
+    a = cpim_set_header(a.message, head, sizeof head, TEXT("a:b"), TEXT("refused, and nothing is changed"));
+    printf("a header called a:b is refused by %llu\n", (unsigned long long)a.number);
+
+    cpim_numbers_t length = cpim_to_string(a.message, head, sizeof head, body, sizeof body, out, 0);
+    cpim_numbers_t n = cpim_to_string(a.message, head, sizeof head, body, sizeof body, out, sizeof out);
+    if (n.number != 0)
+        return refused("cpim_to_string", n.number, n.carried);
+    bool whole = cpim_comes_back(a.message, head, sizeof head, body, sizeof body);
+    printf("%llu bytes that %s:\n%.*s\n", (unsigned long long)length.carried, whole ? "come back" : "do not come back",
+           (int)length.carried, (const char *)out);
+    return 0;
+}
