@@ -1,0 +1,125 @@
+-- `places::put_rows` meets its contract. The invariant is `Rowed`. Assumes nothing.
+use Prim.Native.Nat.{_+_, _-_, _*_, _≤_}
+use native.Mathlib.Omega.{arith}
+use lib.ListN.{length, drop}
+use borrow.Author.Needs.{needs}
+use Rattle.places.specs.Fronts.{frontIn}
+use Rattle.places.proofs.Fronts.{Rowed, rowed-start, rowed-end, rowed-length, rowed-front, rowed-numbers, rowed-room, rowed-on}
+use Rattle.places.proofs.put_rows.Statement.{statement}
+use Rattle.places.proofs.put_rows.Tie as tie
+
+abbrev Inv-loop : tie.InvT-loop
+Inv-loop s rows out₀ at₀ i₀ out at i = Rowed s out₀ out rows at i
+
+abbrev μ-loop : tie.MeasureT-loop
+μ-loop s rows out₀ at₀ i₀ out at i = rows - i
+
+loop-holds : tie.Need-loop-holds Inv-loop μ-loop
+loop-holds c =
+    let start = c .before .before in
+    rowed-start (start .args .s .now) (start .args .out .now) (start .args .rows) (start .pre .0) (start .pre .1)
+
+-- the next entry is within the store, and its row within the output
+module _ (c : tie.In-loop Inv-loop μ-loop) where
+  numbers : c .before .loop .at + 16 ≤ length (c .before .before .before .before .args .s .now)
+  numbers =
+      let args = c .before .before .before .before .args in
+      let l = c .before .loop in
+      rowed-numbers (args .s .now) (args .out .now) (args .rows) (l .out) (l .at) (l .i) (l .inv) (omega arith)
+
+  front : c .before .loop .at + frontIn (drop (c .before .loop .at) (c .before .before .before .before .args .s .now))
+      ≤ length (c .before .before .before .before .args .s .now)
+  front =
+      let args = c .before .before .before .before .args in
+      let l = c .before .loop in
+      rowed-front (args .s .now) (args .out .now) (args .rows) (l .out) (l .at) (l .i) (l .inv) (omega arith)
+
+  room : 4 * c .before .loop .i + 4 ≤ length (c .before .loop .out)
+  room =
+      let args = c .before .before .before .before .args in
+      let l = c .before .loop in
+      rowed-room (args .s .now) (args .out .now) (args .rows) (l .out) (l .at) (l .i) (l .inv) (omega arith)
+
+name-len-requires : tie.Need-name-len-requires Inv-loop μ-loop
+name-len-requires c κs = numbers c
+
+value-len-requires : tie.Need-value-len-requires Inv-loop μ-loop
+value-len-requires c κs = numbers (c .before)
+
+mul-put-row : tie.Need-mul-put-row Inv-loop μ-loop
+mul-put-row c =
+    let l = c .before .before .before .before in
+    omega (arith, l .loop .inv .room, l .before .before .before .good)
+
+add-put-row : tie.Need-add-put-row Inv-loop μ-loop
+add-put-row c = omega (arith, numbers (c .before .before .before))
+
+param-count-requires : tie.Need-param-count-requires Inv-loop μ-loop
+param-count-requires c κs = numbers (c .before .before .before)
+
+put-row-requires : tie.Need-put-row-requires Inv-loop μ-loop
+put-row-requires c κs = room (c .before .before .before .before)
+
+add-at : tie.Need-add-at Inv-loop μ-loop
+add-at c = search needs
+
+add-at-2 : tie.Need-add-at-2 Inv-loop μ-loop
+add-at-2 c = search needs
+
+add-at-3 : tie.Need-add-at-3 Inv-loop μ-loop
+unfolding frontIn
+add-at-3 c =
+    let named = c .before .before .before .before .before .before in
+    omega (arith, front (named .before), named .name-len .ensures .0, c .before .before .before .before .before .value-len .ensures .0)
+
+add-i : tie.Need-add-i Inv-loop μ-loop
+add-i c = omega arith
+
+loop-less : tie.Need-loop-less Inv-loop μ-loop
+loop-less c = omega arith
+
+loop-again : tie.Need-loop-again Inv-loop μ-loop
+loop-again c =
+    let put = c .before .before in
+    let counted = put .before in
+    let valued = counted .before .before in
+    let named = valued .before in
+    let at-loop = named .before .before in
+    let args = at-loop .before .before .before .args in
+    let l = at-loop .loop in
+    rowed-on (args .s .now) (args .out .now) (args .rows) (l .out) (l .at) (l .i) (l .inv) (omega arith) _ _ _ _ (named .name-len .ensures .0) (valued .value-len .ensures .0)
+    (counted .param-count .ensures .0) (put .put-row .ensures)
+
+same-length : tie.Need-same-length Inv-loop μ-loop
+same-length c =
+    let args = c .before .before .before .before .args in
+    let l = c .before .loop in
+    rowed-length (args .s .now) (args .out .now) (args .rows) (l .out) (l .at) (l .i) (l .inv)
+
+returns : tie.Need-returns Inv-loop μ-loop
+returns c =
+    let args = c .before .before .before .before .args in
+    let l = c .before .loop in
+    rowed-end (args .s .now) (args .out .now) (args .rows) (l .out) (l .at) (l .i) (l .inv) (omega arith)
+
+pub put-rows-spec : {M : Type 1} → statement M
+put-rows-spec =
+    tie.close
+    (tie.spec
+    Inv-loop
+    μ-loop
+    loop-holds
+    name-len-requires
+    value-len-requires
+    mul-put-row
+    add-put-row
+    param-count-requires
+    put-row-requires
+    add-at
+    add-at-2
+    add-at-3
+    add-i
+    loop-less
+    loop-again
+    same-length
+    returns)
