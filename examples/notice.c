@@ -45,12 +45,11 @@ int main(void) {
     a = cpim_set_header(a.message, head, sizeof head, TEXT("a:b"), TEXT("refused, and nothing is changed"));
     printf("a header called a:b is refused by %llu\n", (unsigned long long)a.number);
 
-    cpim_numbers_t length = cpim_to_string(a.message, head, sizeof head, body, sizeof body, out, 0);
-    cpim_numbers_t n = cpim_to_string(a.message, head, sizeof head, body, sizeof body, out, sizeof out);
+    cpim_length_answer_t n = cpim_to_string(a.message, head, sizeof head, body, sizeof body, out, sizeof out);
     if (n.number != 0)
         return refused("cpim_to_string", n.number, n.carried);
     bool whole = cpim_comes_back(a.message, head, sizeof head, body, sizeof body);
-    printf("%llu bytes that %s:\n%.*s\n", (unsigned long long)length.carried, whole ? "come back" : "do not come back",
-           (int)length.carried, (const char *)out);
+    printf("%llu bytes that %s:\n%.*s\n", (unsigned long long)n.length, whole ? "come back" : "do not come back",
+           (int)n.length, (const char *)out);
     return 0;
 }

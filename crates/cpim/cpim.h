@@ -148,9 +148,9 @@ cpim_answer_t cpim_with_content_header(cpim_message_t m, uint8_t *head, size_t h
 cpim_message_t cpim_run(const uint8_t *script, size_t script_len, cpim_message_t m, uint8_t *head, size_t head_len,
                         uint8_t *body, size_t body_len);
 
-/* Writes the message's text to the start of out. 26 carries the text's length, so an empty out asks for it. 25 carrying 0, 26. */
-cpim_numbers_t cpim_to_string(cpim_message_t m, const uint8_t *head, size_t head_len, const uint8_t *body,
-                              size_t body_len, uint8_t *out, size_t out_len);
+/* Writes the message's text to the start of out, and gives its length. 26 carries that length too, so an empty out asks for it. 25 carrying 0, 26. */
+cpim_length_answer_t cpim_to_string(cpim_message_t m, const uint8_t *head, size_t head_len, const uint8_t *body,
+                                    size_t body_len, uint8_t *out, size_t out_len);
 
 /* Whether reading its text, with room for it, gives the message held; false where nothing is held. */
 bool cpim_comes_back(cpim_message_t m, const uint8_t *head, size_t head_len, const uint8_t *body, size_t body_len);

@@ -6,8 +6,7 @@ use format::Answer;
 use format::CpimHeader;
 use format::CpimMessage;
 use format::HeaderAnswer;
-use format::Numbers;
-use text_parts::BodyAnswer;
+use text_parts::LengthAnswer;
 use whole::Loss;
 ghost use mathlib.Core.Path.{_≡_};
 ghost use mathlib.Core.Option.{Option};
@@ -16,6 +15,7 @@ ghost use Rattle.format.specs.Refusals.{numbers};
 ghost use Rattle.format.specs.Message.{Message};
 ghost use Rattle.format.specs.Calls.{set-body, set-header, add-header, add-content-header, with-from, with-to, with-datetime, with-subject, with-subject-lang, with-cc, with-ns, with-require, with-content-header};
 ghost use Rattle.format.specs.LookingUp.{findBody, bodyLengthOf, bufferAfter};
+ghost use Rattle.format.specs.Writing.{toText};
 ghost use Rattle.format.specs.Layout.{emptyMessage, Holds, Held};
 ghost use Rattle.format.specs.Lending.{headLent, bothLent, lengths, numbersOf, headerNumbers, Changed, Made, Parsed, Wrote, MadeHeader, ParamSet, HeaderAdded};
 ghost use Rattle.format.specs.Runs.{Run};
@@ -31,7 +31,7 @@ pub extern "C" fn cpim_parse(text: &[u8], head: &mut [u8], body: &mut [u8]) -> A
 }
 
 #[no_mangle]
-pub extern "C" fn cpim_read_body(text: &[u8], buffer: &mut [u8]) -> BodyAnswer
+pub extern "C" fn cpim_read_body(text: &[u8], buffer: &mut [u8]) -> LengthAnswer
     ensures answered { λ r. ⌜ record { number = r .number; carried = r .carried } ≡ numbers (findBody (now (text .entry)) (length (now (buffer .entry)))) ⌝ }
     ensures length { λ r. ⌜ r .length ≡ bodyLengthOf (findBody (now (text .entry)) (length (now (buffer .entry)))) ⌝ }
     ensures written { λ r. ⌜ now (buffer .exit) ≡ bufferAfter (now (text .entry)) (now (buffer .entry)) ⌝ }
@@ -205,8 +205,9 @@ pub extern "C" fn cpim_to_string(
     head: &[u8],
     body: &[u8],
     out: &mut [u8],
-) -> Numbers
-    ensures { λ r. ⌜ Wrote (bothLent m (now (head .entry)) (now (body .entry))) (now (out .entry)) (now (out .exit)) r ⌝ }
+) -> LengthAnswer
+    ensures wrote { λ r. ⌜ Wrote (bothLent m (now (head .entry)) (now (body .entry))) (now (out .entry)) (now (out .exit)) (record { number = r .number; carried = r .carried }) ⌝ }
+    ensures length { λ r. ⌜ ((o : Option Message) → Held (bothLent m (now (head .entry)) (now (body .entry))) o → r .length ≡ bodyLengthOf (toText o (length (now (out .entry))))) ⌝ }
 {
     writing::to_string(m, head, body, out)
 }

@@ -50,18 +50,6 @@ fn print_numbers(name: &[u8], number: u64, carried: u64) {
     write_all(1, b"\n");
 }
 
-// Where a text ends that stands before zeros and ends in none.
-fn text_end(out: &[u8]) -> usize {
-    let mut end = out.len();
-    while 0 < end {
-        if out[end - 1] != 0 {
-            return end;
-        }
-        end -= 1;
-    }
-    0
-}
-
 // The text of what is held.
 fn print_text(m: CpimMessage, head: &[u8], body: &[u8]) {
     let mut out = [0u8; 8192];
@@ -70,8 +58,7 @@ fn print_text(m: CpimMessage, head: &[u8], body: &[u8]) {
         print_numbers(b"to_string", n.number, n.carried);
         return;
     }
-    let end = text_end(&out);
-    write_all(1, first(&out, end));
+    write_all(1, first(&out, n.length));
     write_all(1, b"\n");
 }
 
@@ -223,9 +210,8 @@ fn no_body_store(text: &[u8]) {
 // A message's text read.
 fn back(name: &[u8], m: CpimMessage, head: &[u8], body: &[u8]) {
     let mut out = [0u8; 8192];
-    to_string(m, head, body, &mut out);
-    let end = text_end(&out);
-    read(name, first(&out, end));
+    let n = to_string(m, head, body, &mut out);
+    read(name, first(&out, n.length));
 }
 
 fn no_header() {

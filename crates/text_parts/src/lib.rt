@@ -36,9 +36,9 @@ pub enum Judgement {
     },
 }
 
-// What the first call answers: the two numbers, and the body's length, 0 where it is refused.
+// What a call answers that writes bytes: the two numbers, and how many the bytes are, 0 where it is refused.
 #[repr(C)]
-pub struct BodyAnswer {
+pub struct LengthAnswer {
     pub number: u64,
     pub carried: u64,
     pub length: usize,
@@ -98,14 +98,14 @@ pub fn body_len(text: &[u8], crlf: bool, rest: usize) -> usize
 }
 
 // The body's length: 1, 24, 2, 23, then 26 under LFLF, where the body is written to the buffer's start.
-pub fn read_body(text: &[u8], buffer: &mut [u8]) -> BodyAnswer
+pub fn read_body(text: &[u8], buffer: &mut [u8]) -> LengthAnswer
     ensures answered { λ r. ⌜ record { number = r .number; carried = r .carried } ≡ numbers (findBody (now (text .entry)) (length (now (buffer .entry)))) ⌝ }
     ensures length { λ r. ⌜ r .length ≡ bodyLengthOf (findBody (now (text .entry)) (length (now (buffer .entry)))) ⌝ }
     ensures written { λ r. ⌜ now (buffer .exit) ≡ bufferAfter (now (text .entry)) (now (buffer .entry)) ⌝ }
 {
     let judgement = judge(text);
     match judgement {
-        Judgement::Refused { number, carried } => BodyAnswer {
+        Judgement::Refused { number, carried } => LengthAnswer {
             number: number,
             carried: carried,
             length: 0,
@@ -121,28 +121,28 @@ pub fn read_body(text: &[u8], buffer: &mut [u8]) -> BodyAnswer
         } => {
             let n = body_len(text, crlf, rest);
             if MAX_BODY_SIZE < n {
-                return BodyAnswer {
+                return LengthAnswer {
                     number: 23,
                     carried: n as u64,
                     length: 0,
                 };
             }
             if crlf {
-                return BodyAnswer {
+                return LengthAnswer {
                     number: 0,
                     carried: 0,
                     length: n,
                 };
             }
             if buffer.len() < n {
-                return BodyAnswer {
+                return LengthAnswer {
                     number: 26,
                     carried: n as u64,
                     length: 0,
                 };
             }
             join_into(buffer, 0, &text[rest..]);
-            BodyAnswer {
+            LengthAnswer {
                 number: 0,
                 carried: 0,
                 length: n,

@@ -2,18 +2,22 @@
 // nothing.
 
 use format::CpimMessage;
-use format::Numbers;
 use held::message_holds;
 use measure::text_len;
+use text_parts::LengthAnswer;
 use utf8::utf8_end;
 use writer::write_text;
 ghost use mathlib.Core.Path.{_≡_};
 ghost use mathlib.Core.Bool.{true};
+ghost use mathlib.Core.Option.{Option};
 ghost use Prim.Native.Nat.{_≤_};
 ghost use lib.ListN.{length};
 ghost use Rattle.format.specs.Bytes.{over};
+ghost use Rattle.format.specs.Message.{Message};
+ghost use Rattle.format.specs.LookingUp.{bodyLengthOf};
+ghost use Rattle.format.specs.Layout.{Held};
 ghost use Rattle.format.specs.Lending.{bothLent, Wrote};
-ghost use Rattle.format.specs.Writing.{write};
+ghost use Rattle.format.specs.Writing.{write, toText};
 ghost use Rattle.characters.specs.Lengths.{utf8End};
 ghost use Rattle.held.specs.Holding.{messageHolds};
 ghost use Rattle.held.specs.Decoding.{messageIn};
@@ -38,20 +42,23 @@ fn put_held(m: CpimMessage, head: &[u8], body: &[u8], end: usize, out: &mut [u8]
     );
 }
 
-// 25 carrying 0, then 26.
-pub fn to_string(m: CpimMessage, head: &[u8], body: &[u8], out: &mut [u8]) -> Numbers
-    ensures { λ r. ⌜ Wrote (bothLent m (now (head .entry)) (now (body .entry))) (now (out .entry)) (now (out .exit)) r ⌝ }
+// 25 carrying 0, then 26; accepted, it hands back the text's length.
+pub fn to_string(m: CpimMessage, head: &[u8], body: &[u8], out: &mut [u8]) -> LengthAnswer
+    ensures wrote { λ r. ⌜ Wrote (bothLent m (now (head .entry)) (now (body .entry))) (now (out .entry)) (now (out .exit)) (record { number = r .number; carried = r .carried }) ⌝ }
+    ensures length { λ r. ⌜ ((o : Option Message) → Held (bothLent m (now (head .entry)) (now (body .entry))) o → r .length ≡ bodyLengthOf (toText o (length (now (out .entry))))) ⌝ }
 {
     if !message_holds(m, head) {
-        return Numbers {
+        return LengthAnswer {
             number: 25,
             carried: 0,
+            length: 0,
         };
     }
     if body.len() < m.bodylen {
-        return Numbers {
+        return LengthAnswer {
             number: 25,
             carried: 0,
+            length: 0,
         };
     }
     let size = m.bodylen;
@@ -59,14 +66,16 @@ pub fn to_string(m: CpimMessage, head: &[u8], body: &[u8], out: &mut [u8]) -> Nu
     let end = utf8_end(held, 0);
     let n = text_len(m, head, held, end);
     if out.len() < n {
-        return Numbers {
+        return LengthAnswer {
             number: 26,
             carried: n as u64,
+            length: 0,
         };
     }
     put_held(m, head, held, end, out);
-    Numbers {
+    LengthAnswer {
         number: 0,
         carried: 0,
+        length: n,
     }
 }

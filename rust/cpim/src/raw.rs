@@ -124,7 +124,7 @@ extern "C" {
         _: usize,
         out: *mut u8,
         _: usize,
-    ) -> Numbers;
+    ) -> Answer<usize>;
     fn cpim_comes_back(m: Record, head: *const u8, _: usize, body: *const u8, _: usize) -> bool;
     fn cpim_loss(m: Record, head: *const u8, _: usize, body: *const u8, _: usize) -> Loss;
     fn cpim_run(script: *const u8, _: usize, m: Record, head: *mut u8, _: usize, body: *mut u8, _: usize) -> Record;
@@ -201,13 +201,8 @@ pub fn read_body(text: &[u8], buffer: &mut [u8]) -> Answer<usize> {
 
 /// Writes the message's text to the start of `out` and gives its length.
 pub fn to_string(m: Record, head: &[u8], body: &[u8], out: &mut [u8]) -> Answer<usize> {
-    let write = |out: &mut [u8]| unsafe {
-        cpim_to_string(m, head.as_ptr(), head.len(), body.as_ptr(), body.len(), out.as_mut_ptr(), out.len())
-    };
-    // Stands in for an export that hands back the length too: no text is empty, so an empty output is refused by the length.
-    let Numbers { number, carried } = write(out);
-    let record = if number == 0 { write(&mut []).carried as usize } else { 0 };
-    Answer { number, carried, record }
+    let (h, b) = (head, body);
+    unsafe { cpim_to_string(m, h.as_ptr(), h.len(), b.as_ptr(), b.len(), out.as_mut_ptr(), out.len()) }
 }
 
 /// Whether reading its text, with room for it, gives the message held.

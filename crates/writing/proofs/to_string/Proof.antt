@@ -73,7 +73,7 @@ returns-4 c =
     let measured = put .before .before .before in
     let at = measured .before .before in
     let args = start (passed at) .args in
-    wrote-text (args .m) (args .head .now) (args .body .now) (args .out .now) (holds (passed at)) (fits at) _ (omega (arith, measured .text-len .ensures)) (put .put-held .ensures)
+    wrote-text (args .m) (args .head .now) (args .body .now) (args .out .now) (holds (passed at)) (fits at) _ _ (measured .text-len .ensures) (omega arith) (put .put-held .ensures)
 
 pub to-string-spec : {M : Type 1} → statement M
 to-string-spec =

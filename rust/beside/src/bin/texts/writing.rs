@@ -64,13 +64,12 @@ impl Compared {
         let want = match due {
             Ok(t) if t.len() <= out => {
                 self.out.must(t);
-                (0, 0, t.len())
+                Answer { number: 0, carried: 0, record: t.len() }
             }
-            Ok(t) => (26, t.len() as u64, 0),
-            Err((number, carried)) => (number, carried, 0),
+            Ok(t) => Answer { number: 26, carried: t.len() as u64, record: 0 },
+            Err((number, carried)) => Answer { number, carried, record: 0 },
         };
-        self.tally.written[[0, 25, 26].iter().position(|n| *n == want.0).unwrap()] += 1;
-        let want = Answer { number: want.0, carried: want.1, record: want.2 };
+        self.tally.written[[0, 25, 26].iter().position(|n| *n == want.number).unwrap()] += 1;
         let input = (record, head, body, out);
         if got != want {
             differ("Writing", &input, text, &got, &want);
