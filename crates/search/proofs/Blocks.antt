@@ -96,20 +96,22 @@ block-clear (suc n) m p (b ∷ t) l f h =
     let other = apart-begins m p (b ∷ t) l (both .0) in
     omega (arith, place-step p b t other, block-clear n m p t l (omega arith) (both .1))
 
--- the pattern does not stand in a block with 64 places for it and no pair at them
-pub block-none : (p s : Bytes) → 0 < length p → length s ≡ length p + 63
-    → near (getD p 0 0) (getD p (length p - 1) 0) (take 64 s) (take (length s - (length p - 1)) (drop (length p - 1) s)) ≡ false
-    → place p s ≡ length s
-block-none p s l k h =
-    let m = length p - 1 in
-    let n : length s - m ≡ 64 = omega arith in
-    let rest = length-drop 64 s in
-    omega (arith, block-clear 64 m p s (omega arith) (omega arith) (rw n at h), place-short p (drop 64 s) (omega arith))
+-- A block with w + 1 places for the pattern.
+module _ (w : ℕ) where
+  -- the pattern does not stand in it where no pair stands at these places
+  pub block-none : (p s : Bytes) → 0 < length p → length s ≡ length p + w
+      → near (getD p 0 0) (getD p (length p - 1) 0) (take (w + 1) s) (take (length s - (length p - 1)) (drop (length p - 1) s)) ≡ false
+      → place p s ≡ length s
+  block-none p s l k h =
+      let m = length p - 1 in
+      let n : length s - m ≡ w + 1 = omega arith in
+      let rest = length-drop (w + 1) s in
+      omega (arith, block-clear (w + 1) m p s (omega arith) (omega arith) (rw n at h), place-short p (drop (w + 1) s) (omega arith))
 
--- it begins at none of the 64 places from the place at on: the search goes on behind them
-pub block-past : (p t : Bytes) (at : ℕ) → 0 < length p → at + (length p + 63) ≤ length t
-    → 64 ≤ place p (take (at + (length p + 63) - at) (drop at t))
-    → place p (drop at t) ≡ 64 + place p (drop (at + 64) t)
-block-past p t at l inside h =
-    let left = length-drop at t in
-    part-none 64 (at + (length p + 63) - at) (length p - 1) p (drop at t) (omega arith) (omega arith) (omega arith) h ∙ rw (drop-drop 64 at t) refl
+  -- it begins at none of them from the place at on: the search goes on behind them
+  pub block-past : (p t : Bytes) (at : ℕ) → 0 < length p → at + (length p + w) ≤ length t
+      → w + 1 ≤ place p (take (at + (length p + w) - at) (drop at t))
+      → place p (drop at t) ≡ w + 1 + place p (drop (at + (w + 1)) t)
+  block-past p t at l inside h =
+      let left = length-drop at t in
+      part-none (w + 1) (at + (length p + w) - at) (length p - 1) p (drop at t) (omega arith) (omega arith) (omega arith) h ∙ rw (drop-drop (w + 1) at t) refl

@@ -32,36 +32,67 @@ pub fn find_plain(text: &[u8], pattern: &[u8]) -> usize
     at
 }
 
-// Whether at some of 64 places `first` stands in `text` and `last` in `behind`. No early exit: the loop is to be done
-// 16 places at a time.
+// Whether at some place `first` stands in `text` and `last` in `behind`. No early exit: the loop is to be done 16 places at a
+// time.
 fn near_in(text: &[u8], behind: &[u8], first: u8, last: u8) -> bool
-    requires { ⌜ (length (now text) ≡ 64) × (length (now behind) ≡ 64) ⌝ }
+    requires { ⌜ length (now behind) ≡ length (now text) ⌝ }
     ensures { λ r. ⌜ r ≡ near first last (now (text .entry)) (now (behind .entry)) ⌝ }
 {
     let mut low: u8 = 255;
-    for k in 0..64 {
+    let mut k: usize = 0;
+    while k < text.len() {
         let differ = (text[k] ^ first) | (behind[k] ^ last);
         if differ < low {
             low = differ;
         }
+        k += 1;
     }
     low == 0
 }
 
-// `find_plain`, for a block with 64 places for the pattern. One in which the pattern's first byte nowhere has its last byte
+// `find_plain`, for a block with 16 places for the pattern. One in which the pattern's first byte nowhere has its last byte
 // at the pattern's distance behind it is passed over.
-fn find_in(block: &[u8], pattern: &[u8]) -> usize
-    requires { ⌜ (0 < length (now pattern)) × (length (now block) ≡ length (now pattern) + 63) ⌝ }
+fn find_in_16(block: &[u8], pattern: &[u8]) -> usize
+    requires { ⌜ (0 < length (now pattern)) × (length (now block) ≡ length (now pattern) + 15) ⌝ }
     ensures { λ r. ⌜ r ≡ place (now (pattern .entry)) (now (block .entry)) ⌝ }
 {
     let far = pattern.len() - 1;
-    if near_in(&block[..64], &block[far..], pattern[0], pattern[far]) {
+    if near_in(&block[..16], &block[far..], pattern[0], pattern[far]) {
         return find_plain(block, pattern);
     }
     block.len()
 }
 
-// `find_plain`, by blocks of 64 places.
+// `find_plain`, by blocks of 16 places.
+fn find_by_16(text: &[u8], pattern: &[u8]) -> usize
+    requires { ⌜ 0 < length (now pattern) ⌝ }
+    ensures { λ r. ⌜ r ≡ place (now (pattern .entry)) (now (text .entry)) ⌝ }
+{
+    let span = pattern.len() + 15;
+    let mut at: usize = 0;
+    while span <= text.len() - at {
+        let place = find_in_16(&text[at..at + span], pattern);
+        if place < 16 {
+            return at + place;
+        }
+        at += 16;
+    }
+    at + find_plain(&text[at..], pattern)
+}
+
+// The same with 64 places.
+fn find_in_64(block: &[u8], pattern: &[u8]) -> usize
+    requires { ⌜ (0 < length (now pattern)) × (length (now block) ≡ length (now pattern) + 63) ⌝ }
+    ensures { λ r. ⌜ r ≡ place (now (pattern .entry)) (now (block .entry)) ⌝ }
+{
+    let far = pattern.len() - 1;
+    if near_in(&block[..64], &block[far..], pattern[0], pattern[far]) {
+        return find_by_16(block, pattern);
+    }
+    block.len()
+}
+
+// `find_plain`, by blocks of 64 places, and then of 16.
 pub fn find(text: &[u8], pattern: &[u8]) -> usize
     requires { ⌜ 0 < length (now pattern) ⌝ }
     ensures { λ r. ⌜ r ≡ place (now (pattern .entry)) (now (text .entry)) ⌝ }
@@ -69,11 +100,11 @@ pub fn find(text: &[u8], pattern: &[u8]) -> usize
     let span = pattern.len() + 63;
     let mut at: usize = 0;
     while span <= text.len() - at {
-        let place = find_in(&text[at..at + span], pattern);
+        let place = find_in_64(&text[at..at + span], pattern);
         if place < 64 {
             return at + place;
         }
         at += 64;
     }
-    at + find_plain(&text[at..], pattern)
+    at + find_by_16(&text[at..], pattern)
 }

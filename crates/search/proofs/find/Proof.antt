@@ -27,20 +27,20 @@ loop-holds c = (omega arith, omega arith)
 sub-loop : tie.Need-sub-loop Inv-loop μ-loop
 sub-loop c = search needs
 
-add-find-in : tie.Need-add-find-in Inv-loop μ-loop
-add-find-in c = search needs
+add-find-in-64 : tie.Need-add-find-in-64 Inv-loop μ-loop
+add-find-in-64 c = search needs
 
-sub-find-in : tie.Need-sub-find-in Inv-loop μ-loop
-sub-find-in c = search needs
+sub-find-in-64 : tie.Need-sub-find-in-64 Inv-loop μ-loop
+sub-find-in-64 c = search needs
 
-part-find-in-start : tie.Need-part-find-in-start Inv-loop μ-loop
-part-find-in-start c = search needs
+part-find-in-64-start : tie.Need-part-find-in-64-start Inv-loop μ-loop
+part-find-in-64-start c = search needs
 
-part-find-in-end : tie.Need-part-find-in-end Inv-loop μ-loop
-part-find-in-end c = search needs
+part-find-in-64-end : tie.Need-part-find-in-64-end Inv-loop μ-loop
+part-find-in-64-end c = search needs
 
-find-in-requires : tie.Need-find-in-requires Inv-loop μ-loop
-find-in-requires c κs = search needs
+find-in-64-requires : tie.Need-find-in-64-requires Inv-loop μ-loop
+find-in-64-requires c κs = search needs
 
 add-result : tie.Need-add-result Inv-loop μ-loop
 add-result c = search needs
@@ -62,19 +62,19 @@ loop-again : tie.Need-loop-again Inv-loop μ-loop
 loop-again c =
     let text = c .before .before .before .before .before .before .before .args .text .now in
     let pattern = c .before .before .before .before .before .before .before .args .pattern .now in
-    (omega arith, omega (arith, block-past pattern text (c .before .before .before .before .loop .at) (omega arith) (omega arith) (omega arith)))
+    (omega arith, omega (arith, block-past 63 pattern text (c .before .before .before .before .loop .at) (omega arith) (omega arith) (omega arith)))
 
-sub-find-plain : tie.Need-sub-find-plain Inv-loop μ-loop
-sub-find-plain c = search needs
+sub-find-by-16 : tie.Need-sub-find-by-16 Inv-loop μ-loop
+sub-find-by-16 c = search needs
 
-part-find-plain-start : tie.Need-part-find-plain-start Inv-loop μ-loop
-part-find-plain-start c = search needs
+part-find-by-16-start : tie.Need-part-find-by-16-start Inv-loop μ-loop
+part-find-by-16-start c = search needs
 
-part-find-plain-end : tie.Need-part-find-plain-end Inv-loop μ-loop
-part-find-plain-end c = search needs
+part-find-by-16-end : tie.Need-part-find-by-16-end Inv-loop μ-loop
+part-find-by-16-end c = search needs
 
-find-plain-requires : tie.Need-find-plain-requires Inv-loop μ-loop
-find-plain-requires c κs = search needs
+find-by-16-requires : tie.Need-find-by-16-requires Inv-loop μ-loop
+find-by-16-requires c κs = search needs
 
 add-result-2 : tie.Need-add-result-2 Inv-loop μ-loop
 add-result-2 c =
@@ -98,19 +98,19 @@ find-spec =
     add-span
     loop-holds
     sub-loop
-    add-find-in
-    sub-find-in
-    part-find-in-start
-    part-find-in-end
-    find-in-requires
+    add-find-in-64
+    sub-find-in-64
+    part-find-in-64-start
+    part-find-in-64-end
+    find-in-64-requires
     add-result
     returns
     add-at
     loop-less
     loop-again
-    sub-find-plain
-    part-find-plain-start
-    part-find-plain-end
-    find-plain-requires
+    sub-find-by-16
+    part-find-by-16-start
+    part-find-by-16-end
+    find-by-16-requires
     add-result-2
     returns-2)

@@ -13,10 +13,10 @@ use Rattle.search.proofs.near_in.Statement.{statement}
 use Rattle.search.proofs.near_in.Tie as tie
 
 abbrev Inv-loop : tie.InvT-loop
-Inv-loop text behind first last low₀ k₀ low k = (k ≤ 64) × (near first last text behind ≡ (eqb low 0 || near first last (drop k text) (drop k behind)))
+Inv-loop text behind first last low₀ k₀ low k = (k ≤ length text) × (near first last text behind ≡ (eqb low 0 || near first last (drop k text) (drop k behind)))
 
 abbrev μ-loop : tie.MeasureT-loop
-μ-loop text behind first last low₀ k₀ low k = 64 - k
+μ-loop text behind first last low₀ k₀ low k = length text - k
 
 loop-holds : tie.Need-loop-holds Inv-loop μ-loop
 loop-holds c = (omega arith, refl)

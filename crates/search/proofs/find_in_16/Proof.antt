@@ -1,16 +1,16 @@
--- `find_in` meets its contract: without a pair the pattern stands nowhere in the block (`block-none`).
+-- `find_in_16` meets its contract: without a pair the pattern stands nowhere in the block (`block-none`).
 use mathlib.Core.Path.{_≡_, sym, _∙_}
 use native.Mathlib.Omega.{arith}
 use lib.ListN.{length, take}
 use lib.Seq.{length-take-le}
 use borrow.Author.Needs.{needs}
 use Rattle.search.proofs.Blocks.{block-none}
-use Rattle.search.proofs.find_in.Statement.{statement}
-use Rattle.search.proofs.find_in.Tie as tie
+use Rattle.search.proofs.find_in_16.Statement.{statement}
+use Rattle.search.proofs.find_in_16.Tie as tie
 
--- the block has 64 bytes and more
-front : (c : tie.Start) → length (take 64 (c .args .block .now)) ≡ 64
-front c = length-take-le 64 (c .args .block .now) (omega arith)
+-- the block has 16 bytes and more
+front : (c : tie.Start) → length (take 16 (c .args .block .now)) ≡ 16
+front c = length-take-le 16 (c .args .block .now) (omega arith)
 
 sub-far : tie.Need-sub-far
 sub-far c = search needs
@@ -34,7 +34,7 @@ shared-slice-read-near-in-2 : tie.Need-shared-slice-read-near-in-2
 shared-slice-read-near-in-2 c = search needs
 
 near-in-requires : tie.Need-near-in-requires
-near-in-requires c κs = (front (c .before .before .before .before .before .before), search needs)
+near-in-requires c κs = omega (arith, front (c .before .before .before .before .before .before))
 
 find-plain-requires : tie.Need-find-plain-requires
 find-plain-requires c κs = search needs
@@ -45,10 +45,10 @@ returns c = search needs
 returns-2 : tie.Need-returns-2
 returns-2 c =
     let args = c .before .before .before .before .before .before .before .before .args in
-    sym (block-none (args .pattern .now) (args .block .now) (omega arith) (omega arith) (sym (c .before .near-in .ensures) ∙ c .if1 .left))
+    sym (block-none 15 (args .pattern .now) (args .block .now) (omega arith) (omega arith) (sym (c .before .near-in .ensures) ∙ c .if1 .left))
 
-pub find-in-spec : {M : Type 1} → statement M
-find-in-spec =
+pub find-in-16-spec : {M : Type 1} → statement M
+find-in-16-spec =
     tie.close
     (tie.spec
     sub-far
