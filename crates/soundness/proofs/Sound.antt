@@ -8,10 +8,10 @@ use native.Mathlib.Numerals.{add-one}
 use lib.Dec.{leb, ltb, eqb}
 use lib.ListN.{getD}
 use borrow.Author.Count.{below-none, below-more}
-use borrow.Author.Tests.{lt-ltb, le-ltb, le-leb, lt-leb, leb-true, eq-eqb, ne-eqb}
+use borrow.Author.Tests.{lt-ltb, le-ltb, le-leb, lt-leb, leb-true, ltb-true, eq-eqb, ne-eqb}
 use Rattle.format.specs.Bytes.{Bytes}
 use Rattle.format.proofs.Lists.{bcase, below, clash, and-left, and-right, and-intro, or-intro-right}
-use Rattle.soundness.specs.Sound.{Trailing, Sound, SoundAt, isTrailing, isLeading, isOwed, inTurn, leastBehind, greatestBehind, isSound, isSoundAt, allSound, bit}
+use Rattle.soundness.specs.Sound.{Trailing, Sound, SoundAt, isTrailing, isLeading, isOwed, inTurn, leastBehind, greatestBehind, isSound, isSoundAt, allSound, isPair, allPairs, bit}
 
 -- a trailing byte, and bytes that are none
 pub trailing-is : (b : ℕ) → 0x80 ≤ b → b ≤ 0xBF → isTrailing b ≡ true
@@ -130,18 +130,22 @@ module _ (p3 p2 p1 b : ℕ) where
           other : 0xC0 ≤ b → 0xC2 ≤ b
           other g = ⊎-elim (λ l. absurd (⊎-elim (λ z. x (omega arith)) (λ z. y (omega arith)) (below b 0xC1))) (λ l. l) (below b 0xC2)
 
+  turn-not : (bit (isTrailing b) ≡ bit (isOwed p3 p2 p1) → ⊥) → inTurn p3 p2 p1 b ≡ false
+  turn-not n =
+      ⊎-elim
+      (λ o. turn-owed o ∙ ⊎-elim (λ t. absurd (n (ap bit (t ∙ sym o)))) (λ f. f) (bcase (isTrailing b)))
+      (λ o.
+      turn-free o
+      ∙ ⊎-elim (λ t. let h = trailing-from b t in leading-not b (h .0) (omega arith)) (λ f. absurd (n (ap bit (f ∙ sym o)))) (bcase (isTrailing b)))
+      (bcase (isOwed p3 p2 p1))
+
+  -- C0 and C1 neither trail nor lead
+  turn-never : 0xC0 ≤ b → b < 0xC2 → inTurn p3 p2 p1 b ≡ false
+  turn-never h i = ⊎-elim (λ o. turn-owed o ∙ trailing-above b (omega arith)) (λ o. turn-free o ∙ leading-not b (omega arith) i) (bcase (isOwed p3 p2 p1))
+
   pub fault-turn : (bit (isTrailing b) ≡ bit (isOwed p3 p2 p1) → ⊥) → isSound p3 p2 p1 b ≡ false
   unfolding isSound
-  fault-turn n = rw wrong refl
-    where
-      wrong : inTurn p3 p2 p1 b ≡ false
-      wrong =
-          ⊎-elim
-          (λ o. turn-owed o ∙ ⊎-elim (λ t. absurd (n (ap bit (t ∙ sym o)))) (λ f. f) (bcase (isTrailing b)))
-          (λ o.
-          turn-free o
-          ∙ ⊎-elim (λ t. let h = trailing-from b t in leading-not b (h .0) (omega arith)) (λ f. absurd (n (ap bit (f ∙ sym o)))) (bcase (isTrailing b)))
-          (bcase (isOwed p3 p2 p1))
+  fault-turn n = rw (turn-not n) refl
 
   pub fault-least : b < leastBehind p1 → isSound p3 p2 p1 b ≡ false
   unfolding isSound
@@ -151,13 +155,9 @@ module _ (p3 p2 p1 b : ℕ) where
   unfolding isSound
   fault-greatest h = rw (lt-leb b (greatestBehind p1) h, and-false (leb (leastBehind p1) b)) (and-false (inTurn p3 p2 p1 b))
 
-  -- C0 and C1 neither trail nor lead
   pub fault-never : 0xC0 ≤ b → b < 0xC2 → isSound p3 p2 p1 b ≡ false
   unfolding isSound
-  fault-never h i = rw wrong refl
-    where
-      wrong : inTurn p3 p2 p1 b ≡ false
-      wrong = ⊎-elim (λ o. turn-owed o ∙ trailing-above b (omega arith)) (λ o. turn-free o ∙ leading-not b (omega arith) i) (bcase (isOwed p3 p2 p1))
+  fault-never h i = rw (turn-never h i) refl
 
   pub fault-none :
       bit (isTrailing b) ≡ bit (isOwed p3 p2 p1)
@@ -211,18 +211,78 @@ all-from s (suc n) e =
     below-more (SoundAt s) n (all-from s n (and-left (allSound n s) (isSoundAt s n) e)) (at-from s n (and-right (allSound n s) (isSoundAt s n) e)) i
     (omega arith)
 
--- the faults among the first k places, with one place more
-pub faults-more :
-    (s : Bytes) (k w f m : ℕ)
-    → w ≡ bit (not (allSound k s))
-    → f ≡ bit (not (isSound (getD s k 0) (getD s (k + 1) 0) (getD s (k + 2) 0) (getD s (k + 3) 0)))
-    → ((w < f) × (m ≡ f)) ⊎ ((f ≤ w) × (m ≡ w))
-    → m ≡ bit (not (allSound (k + 1) s))
-unfolding allSound isSoundAt
-faults-more s k w f m e g h = rw (add-one k) (larger (allSound k s) (isSound (getD s k 0) (getD s (k + 1) 0) (getD s (k + 2) 0) (getD s (k + 3) 0)) e g h)
-  where
-    larger : (a b : Bool) → w ≡ bit (not a) → f ≡ bit (not b) → ((w < f) × (m ≡ f)) ⊎ ((f ≤ w) × (m ≡ w)) → m ≡ bit (not (a && b))
-    larger true true e g h = ⊎-elim (λ x. omega arith) (λ x. omega arith) h
-    larger true false e g h = ⊎-elim (λ x. omega arith) (λ x. omega arith) h
-    larger false true e g h = ⊎-elim (λ x. omega arith) (λ x. omega arith) h
-    larger false false e g h = ⊎-elim (λ x. omega arith) (λ x. omega arith) h
+-- the worst so far, with one more: the larger of the two
+module _ (w f m : ℕ) (h : ((w < f) × (m ≡ f)) ⊎ ((f ≤ w) × (m ≡ w))) where
+  larger : (a b : Bool) → w ≡ bit (not a) → f ≡ bit (not b) → m ≡ bit (not (a && b))
+  larger true true e g = ⊎-elim (λ x. omega arith) (λ x. omega arith) h
+  larger true false e g = ⊎-elim (λ x. omega arith) (λ x. omega arith) h
+  larger false true e g = ⊎-elim (λ x. omega arith) (λ x. omega arith) h
+  larger false false e g = ⊎-elim (λ x. omega arith) (λ x. omega arith) h
+
+  pub faults-more : (s : Bytes) (k : ℕ) → w ≡ bit (not (allSound k s)) → f ≡ bit (not (isSound (getD s k 0) (getD s (k + 1) 0) (getD s (k + 2) 0) (getD s (k + 3) 0))) → m ≡ bit (not (allSound (k + 1) s))
+  unfolding allSound isSoundAt
+  faults-more s k e g = rw (add-one k) (larger (allSound k s) (isSound (getD s k 0) (getD s (k + 1) 0) (getD s (k + 2) 0) (getD s (k + 3) 0)) e g)
+
+  pub pairs-more : (s : Bytes) (k : ℕ) → w ≡ bit (not (allPairs k s)) → f ≡ bit (not (isPair (getD s (k + 2) 0) (getD s (k + 3) 0))) → m ≡ bit (not (allPairs (k + 1) s))
+  unfolding allPairs
+  pairs-more s k e g = rw (add-one k) (larger (allPairs k s) (isPair (getD s (k + 2) 0) (getD s (k + 3) 0)) e g)
+
+-- b behind p1 where no character has more than two bytes
+module _ (p1 b : ℕ) where
+  pub pair-turn : (bit (isTrailing b) ≡ bit (isOwed 0 0 p1) → ⊥) → isPair p1 b ≡ false
+  unfolding isPair
+  pair-turn n = rw (turn-not 0 0 p1 b n) (and-false (ltb b 0xE0))
+
+  pub pair-greatest : 0xDF < b → isPair p1 b ≡ false
+  unfolding isPair
+  pair-greatest h = rw (le-ltb b 0xE0 (omega arith)) refl
+
+  pub pair-never : 0xC0 ≤ b → b < 0xC2 → isPair p1 b ≡ false
+  unfolding isPair
+  pair-never h i = rw (turn-never 0 0 p1 b h i) (and-false (ltb b 0xE0))
+
+  pub pair-none : bit (isTrailing b) ≡ bit (isOwed 0 0 p1) → (b ≡ 0xC0 → ⊥) → (b ≡ 0xC1 → ⊥) → b ≤ 0xDF → isPair p1 b ≡ true
+  unfolding isPair
+  pair-none e x y h = rw (turn-is 0 0 p1 b e x y, lt-ltb b 0xE0 (omega arith)) refl
+
+  pair-below : isPair p1 b ≡ true → b < 0xE0
+  unfolding isPair
+  pair-below e = ltb-true b 0xE0 (and-left (ltb b 0xE0) (inTurn 0 0 p1 b) e)
+
+  -- such a byte is sound behind bytes that lead no character of more than two
+  module _ (p3 p2 : ℕ) (h3 : p3 < 0xE0) (h2 : p2 < 0xE0) (h1 : p1 < 0xE0) (e : isPair p1 b ≡ true) where
+    pair-owes : isOwed p3 p2 p1 ≡ isOwed 0 0 p1
+    unfolding isOwed
+    pair-owes = rw (lt-leb 0xE0 p2 h2, lt-leb 0xF0 p3 (omega arith)) refl
+
+    pair-in-turn : inTurn p3 p2 p1 b ≡ true
+    unfolding inTurn isPair
+    pair-in-turn = rw pair-owes (and-right (ltb b 0xE0) (inTurn 0 0 p1 b) e)
+
+    pair-sound : isSound p3 p2 p1 b ≡ true
+    unfolding isSound
+    pair-sound =
+        let below = pair-below e in
+        rw (pair-in-turn, least-other p1 (λ x. omega arith) (λ x. omega arith), le-leb 0 b (omega arith), greatest-other p1 (λ x. omega arith) (λ x. omega arith), le-leb b 0xF4 (omega arith)) refl
+
+-- so are all
+pub pairs-sound : (s : Bytes) (n : ℕ) → getD s 0 0 < 0xE0 → getD s 1 0 < 0xE0 → getD s 2 0 < 0xE0 → allPairs n s ≡ true
+    → (allSound n s ≡ true) × (getD s n 0 < 0xE0) × (getD s (n + 1) 0 < 0xE0) × (getD s (n + 2) 0 < 0xE0)
+unfolding allPairs allSound isSoundAt
+pairs-sound s zero h0 h1 h2 e = (refl, h0, h1, h2)
+pairs-sound s (suc n) h0 h1 h2 e =
+    let before = pairs-sound s n h0 h1 h2 (and-left (allPairs n s) (isPair (getD s (n + 2) 0) (getD s (n + 3) 0)) e) in
+    let pair = and-right (allPairs n s) (isPair (getD s (n + 2) 0) (getD s (n + 3) 0)) e in
+    let one : n + 1 ≡ suc n = omega arith in
+    let two : n + 2 ≡ suc n + 1 = omega arith in
+    let three : n + 3 ≡ suc n + 2 = omega arith in (
+      and-intro (allSound n s) (isSound (getD s n 0) (getD s (n + 1) 0) (getD s (n + 2) 0) (getD s (n + 3) 0)) (before .0) (pair-sound (getD s (n + 2) 0) (getD s (n + 3) 0) (getD s n 0) (getD s (n + 1) 0) (before .1) (before .2) (before .3) pair),
+      subst (λ (k : ℕ). getD s k 0 < 0xE0) one (before .2),
+      subst (λ (k : ℕ). getD s k 0 < 0xE0) two (before .3),
+      subst (λ (k : ℕ). getD s k 0 < 0xE0) three (pair-below (getD s (n + 2) 0) (getD s (n + 3) 0) pair),
+    )
+
+-- no fault: the test passes
+pub no-fault : (a : Bool) → bit (not a) ≡ 0 → a ≡ true
+no-fault true e = refl
+no-fault false e = absurd (omega arith)

@@ -64,6 +64,15 @@ unfoldable pub allSound : ℕ → Bytes → Bool
 allSound zero s = true
 allSound (suc n) s = allSound n s && isSoundAt s n
 
+-- b behind p1 where no character has more than two bytes
+unfoldable pub isPair : ℕ → ℕ → Bool
+isPair p1 b = ltb b 0xE0 && inTurn 0 0 p1 b
+
+-- so stands the byte three behind each of the first n places
+unfoldable pub allPairs : ℕ → Bytes → Bool
+allPairs zero s = true
+allPairs (suc n) s = allPairs n s && isPair (getD s (n + 2) 0) (getD s (n + 3) 0)
+
 -- 1 where a test passes, else 0
 abbrev pub bit : Bool → ℕ
 bit true = 1

@@ -33,14 +33,15 @@ fn is_settled(s: &[u8], from: usize) -> bool
     s[from + 2] < 0xC2
 }
 
-// Passes over the 64 bytes three behind `from`, but for a character that reaches over their end; over none where one is not sound.
-fn past_sound(s: &[u8], from: usize) -> usize
+// Passes over the 64 bytes three behind `from`, of which `top` is the largest, but for a character that reaches over their end; over none
+// where one is not sound.
+fn past_sound(s: &[u8], from: usize, top: u8) -> usize
     requires { ⌜ from + 67 ≤ length (now s) ⌝ }
     ensures { λ r. ⌜ r ≡ soundEnd (now (s .entry)) from ⌝ }
 {
     let end = from + 67;
     let part = &s[from..end];
-    if 0 < soundness::faults(part) {
+    if 0 < soundness::faults(part, top) {
         return from + 3;
     }
     if 0xC2 <= s[from + 66] {
@@ -62,7 +63,8 @@ fn past_block(s: &[u8], at: usize) -> usize
 {
     let end = at + 64;
     let part = &s[at..end];
-    if largest(part) < 0x80 {
+    let top = largest(part);
+    if top < 0x80 {
         return end;
     }
     if at < 3 {
@@ -70,7 +72,7 @@ fn past_block(s: &[u8], at: usize) -> usize
     }
     let from = at - 3;
     if is_settled(s, from) {
-        return past_sound(s, from);
+        return past_sound(s, from, top);
     }
     at
 }

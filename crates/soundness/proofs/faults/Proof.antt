@@ -1,86 +1,78 @@
--- `soundness::faults` meets its contract. The invariant: the worst so far tells whether each byte passed is sound.
+-- `soundness::faults` meets its contract: bytes that pass as pairs are sound (`pairs-sound`), and any others are judged by all.
 -- Assumes nothing.
-use mathlib.Core.Path.{_≡_, refl, _∙_}
-use mathlib.Core.Bool.{not}
-use mathlib.Core.Logic.{⊎-elim, inl, inr}
-use Prim.Native.Nat.{_-_, _≤_}
+use mathlib.Core.Path.{refl, sym, _∙_}
 use native.Mathlib.Omega.{arith}
 use borrow.Author.Needs.{needs}
-use Rattle.soundness.proofs.Sound.{faults-more}
-use Rattle.soundness.specs.Sound.{bit, allSound}
+use Rattle.soundness.specs.Sound.{allPairs}
+use Rattle.soundness.proofs.Sound.{pairs-sound, no-fault}
 use Rattle.soundness.proofs.faults.Statement.{statement}
 use Rattle.soundness.proofs.faults.Tie as tie
 
-abbrev Inv-loop : tie.InvT-loop
-Inv-loop part worst₀ k₀ worst k = (k ≤ 64) × (worst ≡ bit (not (allSound k part)))
+any-faults-requires : tie.Need-any-faults-requires
+any-faults-requires c κs = search needs
 
-abbrev μ-loop : tie.MeasureT-loop
-μ-loop part worst₀ k₀ worst k = 64 - k
+returns : tie.Need-returns
+returns c = search needs
 
-loop-holds : tie.Need-loop-holds Inv-loop μ-loop
-loop-holds c = (omega arith, unfold allSound in refl)
+shared-slice-read-if2 : tie.Need-shared-slice-read-if2
+shared-slice-read-if2 c = search needs
 
-shared-slice-read-fault : tie.Need-shared-slice-read-fault Inv-loop μ-loop
-shared-slice-read-fault c = search needs
+any-faults-requires-2 : tie.Need-any-faults-requires-2
+any-faults-requires-2 c κs = search needs
 
-add-fault : tie.Need-add-fault Inv-loop μ-loop
-add-fault c = search needs
+returns-2 : tie.Need-returns-2
+returns-2 c = search needs
 
-shared-slice-read-fault-2 : tie.Need-shared-slice-read-fault-2 Inv-loop μ-loop
-shared-slice-read-fault-2 c = search needs
+shared-slice-read-if3 : tie.Need-shared-slice-read-if3
+shared-slice-read-if3 c = search needs
 
-add-fault-2 : tie.Need-add-fault-2 Inv-loop μ-loop
-add-fault-2 c = search needs
+any-faults-requires-3 : tie.Need-any-faults-requires-3
+any-faults-requires-3 c κs = search needs
 
-shared-slice-read-fault-3 : tie.Need-shared-slice-read-fault-3 Inv-loop μ-loop
-shared-slice-read-fault-3 c = search needs
+returns-3 : tie.Need-returns-3
+returns-3 c = search needs
 
-add-fault-3 : tie.Need-add-fault-3 Inv-loop μ-loop
-add-fault-3 c = search needs
+shared-slice-read-if4 : tie.Need-shared-slice-read-if4
+shared-slice-read-if4 c = search needs
 
-shared-slice-read-fault-4 : tie.Need-shared-slice-read-fault-4 Inv-loop μ-loop
-shared-slice-read-fault-4 c = search needs
+any-faults-requires-4 : tie.Need-any-faults-requires-4
+any-faults-requires-4 c κs = search needs
 
-fault-requires : tie.Need-fault-requires Inv-loop μ-loop
-fault-requires c κs = search needs
+returns-4 : tie.Need-returns-4
+returns-4 c = search needs
 
-add-k : tie.Need-add-k Inv-loop μ-loop
-add-k c = search needs
+pair-faults-requires : tie.Need-pair-faults-requires
+pair-faults-requires c κs = search needs
 
-loop-less : tie.Need-loop-less Inv-loop μ-loop
-loop-less c = search needs
+returns-5 : tie.Need-returns-5
+returns-5 c =
+    let part = c .before .before .before .before .before .before .before .before .before .before .args .part .now in
+    let f = c .before .pair-faults in
+    let sound = pairs-sound part 64 (omega arith) (omega arith) (omega arith) (no-fault (allPairs 64 part) (sym (f .ensures) ∙ c .if5 .taken)) in
+    rw (sound .0) refl
 
-loop-again : tie.Need-loop-again Inv-loop μ-loop
-loop-again c =
-    let loop = c .before .before .before .before .before .before .before .loop in (
-      omega arith,
-      faults-more (c .before .before .before .before .before .before .before .before .before .args .part .now) (loop .k) (loop .worst) (c .before .fault .result) (c .if1 .worst)
-          (loop .inv .1)
-          (c .before .fault .ensures)
-          (⊎-elim (λ w. inl (omega arith, omega arith)) (λ w. inr (omega arith, omega arith)) (c .if1 .came)),
-    )
+any-faults-requires-5 : tie.Need-any-faults-requires-5
+any-faults-requires-5 c κs = search needs
 
-returns : tie.Need-returns Inv-loop μ-loop
-returns c =
-    let e : c .before .loop .k ≡ 64 = omega arith in
-    c .before .loop .inv .1 ∙ rw e refl
+returns-6 : tie.Need-returns-6
+returns-6 c = search needs
 
 pub faults-spec : {M : Type 1} → statement M
 faults-spec =
     tie.close
     (tie.spec
-    Inv-loop
-    μ-loop
-    loop-holds
-    shared-slice-read-fault
-    add-fault
-    shared-slice-read-fault-2
-    add-fault-2
-    shared-slice-read-fault-3
-    add-fault-3
-    shared-slice-read-fault-4
-    fault-requires
-    add-k
-    loop-less
-    loop-again
-    returns)
+    any-faults-requires
+    returns
+    shared-slice-read-if2
+    any-faults-requires-2
+    returns-2
+    shared-slice-read-if3
+    any-faults-requires-3
+    returns-3
+    shared-slice-read-if4
+    any-faults-requires-4
+    returns-4
+    pair-faults-requires
+    returns-5
+    any-faults-requires-5
+    returns-6)
