@@ -1,5 +1,5 @@
-# `make` proves everything and prints what is proved of the whole; `make test` is the gate.
-.PHONY: prove test compare bench format library calls gateway notice rt cargo
+# `make` proves everything and prints what is proved of the whole; `make show` is a first look; `make test` is the gate.
+.PHONY: prove show test examples compare bench format library calls gateway notice rt cargo
 
 # More jobs than a machine of two cores has: crates of one level, and edits, wait for the slowest among them.
 export RT_JOBS ?= 4
@@ -11,10 +11,22 @@ prove: rt
 	@echo
 	@sed -n '/^pub record Demand3/,$$p' crates/format/specs/Demand3.antt
 
+# A first look: the program that shows what is read of a notice, proved with all that it rests on, then run on one.
+show: rt
+	@rt check showcpim
+	@target/bin/showcpim <examples/umbrella.cpim
+
 # The last line is rt's own: 'N passed, 0 failed'.
 test: compare
 	@rt fmt --check
 	@rt ci
+
+# The programs on the notices of examples/, held to what stands beside each.
+examples: rt
+	@out=$$(rt check showcpim) || { printf '%s\n' "$$out"; exit 1; }
+	@for notice in examples/*.cpim; do \
+		target/bin/showcpim <"$$notice" | cmp - "$${notice%.cpim}.show" || exit 1; \
+	done; echo "examples: each notice is shown as the paper says"
 
 # The leaves beside Rust's standard library and the source; lists of calls, and texts read and written, beside the source; the gateway's crate.
 compare: cargo library calls gateway notice

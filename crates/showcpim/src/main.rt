@@ -1,0 +1,11 @@
+// Document 01, "Looking up": reads a text on standard input and prints what was read of it. `showing::show` says what is printed.
+
+fn main() {
+    let mut input = [0u8; 65537];
+    let n = io::read_full(0, &mut input);
+    let mut head = [0u8; 65536];
+    let mut body = [0u8; 65536];
+    let mut out = [0u8; 1712];
+    let end = showing::show(&input[..n], &mut head, &mut body, &mut out);
+    io::write_all(1, &out[..end]);
+}
