@@ -9,7 +9,6 @@ use entries::param_count;
 use entries::tail_at;
 use entries::value_at;
 use kinds::Kind;
-use utf8::is_utf8;
 ghost use mathlib.Core.Path.{_≡_};
 ghost use mathlib.Core.Bool.{true};
 ghost use mathlib.Core.List.{[]};
@@ -17,46 +16,41 @@ ghost use Prim.Native.Nat.{_≤_};
 ghost use lib.ListN.{length, drop};
 ghost use Rattle.format.specs.Bytes.{all};
 ghost use Rattle.entries.specs.Stored.{shaped, shapedAll, storedIn, entriesIn};
+ghost use Rattle.weights.specs.Weights.{weights};
 ghost use Rattle.judging.specs.Judging.{fits, entryHolds, entriesHold, tailHolds, headersHold};
 
-// Whether the entry at a place is within limits and validators, its parameters not looked into.
-fn entry_fits(kind: Kind, s: &[u8], at: usize) -> bool
-    requires { ⌜ shaped (drop at (now s)) ≡ true ⌝ }
+// Whether the entry at a place is within limits and validators, its parameters not looked into. The table of weights is lent to all
+// that judge, so that a walk holds it once.
+fn entry_fits(table: &[u8; 256], kind: Kind, s: &[u8], at: usize) -> bool
+    requires { ⌜ (now table ≡ weights) × (shaped (drop at (now s)) ≡ true) ⌝ }
     ensures { λ r. ⌜ r ≡ fits kind (storedIn (drop at (now (s .entry)))) ⌝ }
 {
-    let name = name_at(s, at);
-    let value = value_at(s, at);
-    if !kinds::name_passes(kind, name) {
+    if !fitting::name_fits(table, kind, name_at(s, at)) {
         return false;
     }
-    if !kinds::value_passes(kind, value) {
+    if !fitting::value_fits(table, kind, value_at(s, at)) {
         return false;
     }
-    if !kinds::params_fit(kind, param_count(s, at), tail_at(s, at)) {
-        return false;
-    }
-    if !is_utf8(name) {
-        return false;
-    }
-    is_utf8(value)
+    kinds::params_fit(kind, param_count(s, at), tail_at(s, at))
 }
 
 // Whether such an entry stands at a place, of a name that may stand behind the last one.
-fn entry_holds(kind: Kind, s: &[u8], at: usize, last: &[u8]) -> bool
-    requires { ⌜ at ≤ length (now s) ⌝ }
+fn entry_holds(table: &[u8; 256], kind: Kind, s: &[u8], at: usize, last: &[u8]) -> bool
+    requires { ⌜ (now table ≡ weights) × (at ≤ length (now s)) ⌝ }
     ensures { λ r. ⌜ r ≡ entryHolds kind (now (last .entry)) (drop at (now (s .entry))) ⌝ }
 {
     if !is_shaped(s, at) {
         return false;
     }
-    if !entry_fits(kind, s, at) {
+    if !entry_fits(table, kind, s, at) {
         return false;
     }
     kinds::name_follows(kind, last, name_at(s, at))
 }
 
 // Whether s is so many entries; the last name stands at from..to.
-pub fn entries_hold(kind: Kind, s: &[u8], count: usize) -> bool
+fn entries_hold_in(table: &[u8; 256], kind: Kind, s: &[u8], count: usize) -> bool
+    requires { ⌜ now table ≡ weights ⌝ }
     ensures { λ r. ⌜ r ≡ entriesHold kind count [] (now (s .entry)) ⌝ }
 {
     let mut at = 0;
@@ -64,7 +58,7 @@ pub fn entries_hold(kind: Kind, s: &[u8], count: usize) -> bool
     let mut to = 0;
     let mut i = 0;
     while i < count {
-        if !entry_holds(kind, s, at, &s[from..to]) {
+        if !entry_holds(table, kind, s, at, &s[from..to]) {
             return false;
         }
         from = at + 16;
@@ -75,15 +69,22 @@ pub fn entries_hold(kind: Kind, s: &[u8], count: usize) -> bool
     at == s.len()
 }
 
+pub fn entries_hold(kind: Kind, s: &[u8], count: usize) -> bool
+    ensures { λ r. ⌜ r ≡ entriesHold kind count [] (now (s .entry)) ⌝ }
+{
+    let table = weights::table();
+    entries_hold_in(&table, kind, s, count)
+}
+
 // Whether the bytes behind each header's value are its parameters.
-fn tails_hold(s: &[u8], count: usize) -> bool
-    requires { ⌜ shapedAll count (now s) ≡ true ⌝ }
+fn tails_hold(table: &[u8; 256], s: &[u8], count: usize) -> bool
+    requires { ⌜ (now table ≡ weights) × (shapedAll count (now s) ≡ true) ⌝ }
     ensures { λ r. ⌜ r ≡ all tailHolds (entriesIn count (now (s .entry))) ⌝ }
 {
     let mut at = 0;
     let mut i = 0;
     while i < count {
-        if !entries_hold(Kind::Param, tail_at(s, at), param_count(s, at)) {
+        if !entries_hold_in(table, Kind::Param, tail_at(s, at), param_count(s, at)) {
             return false;
         }
         at += entry_len(s, at);
@@ -95,8 +96,9 @@ fn tails_hold(s: &[u8], count: usize) -> bool
 pub fn headers_hold(s: &[u8], count: usize) -> bool
     ensures { λ r. ⌜ r ≡ headersHold count (now (s .entry)) ⌝ }
 {
-    if !entries_hold(Kind::Header, s, count) {
+    let table = weights::table();
+    if !entries_hold_in(&table, Kind::Header, s, count) {
         return false;
     }
-    tails_hold(s, count)
+    tails_hold(&table, s, count)
 }

@@ -16,7 +16,7 @@ unfolding entryHolds
 returns c = fails _ _ (c .before .is-shaped .ensures) (c .if1 .taken)
 
 entry-fits-requires : tie.Need-entry-fits-requires
-entry-fits-requires c κs = sym (c .before .is-shaped .ensures) ∙ not-false _ (c .if1 .left)
+entry-fits-requires c κs = (c .before .before .before .before .pre .0, sym (c .before .is-shaped .ensures) ∙ not-false _ (c .if1 .left))
 
 returns-2 : tie.Need-returns-2
 unfolding entryHolds

@@ -10,22 +10,27 @@ use Rattle.kinds.proofs.Tests.{fails, goes-on}
 use Rattle.judging.proofs.headers_hold.Statement.{statement}
 use Rattle.judging.proofs.headers_hold.Tie as tie
 
-entries-hold-requires : tie.Need-entries-hold-requires
-entries-hold-requires c κs = search needs
+table-requires : tie.Need-table-requires
+table-requires c κs = search needs
+
+entries-hold-in-requires : tie.Need-entries-hold-in-requires
+entries-hold-in-requires c κs = search needs
 
 returns : tie.Need-returns
 unfolding headersHold
-returns c = fails _ _ (c .before .entries-hold .ensures) (c .if1 .taken)
+returns c = fails _ _ (c .before .entries-hold-in .ensures) (c .if1 .taken)
 
 tails-hold-requires : tie.Need-tails-hold-requires
 tails-hold-requires c κs =
-    let args = c .before .before .before .args in
-    holds-shaped Header (args .count) [] (args .s .now) (sym (c .before .entries-hold .ensures) ∙ not-false _ (c .if1 .left))
+    let held = c .before .before in
+    let made = held .before .before in
+    let args = made .before .before .args in
+    (made .table .ensures, holds-shaped Header (args .count) [] (args .s .now) (sym (held .entries-hold-in .ensures) ∙ not-false _ (c .before .if1 .left)))
 
 returns-2 : tie.Need-returns-2
 unfolding headersHold
-returns-2 c = c .tails-hold .ensures ∙ goes-on _ _ (c .before .before .entries-hold .ensures) (c .before .if1 .left)
+returns-2 c = c .tails-hold .ensures ∙ goes-on _ _ (c .before .before .before .entries-hold-in .ensures) (c .before .before .if1 .left)
 
 pub headers-hold-spec : {M : Type 1} → statement M
 headers-hold-spec =
-    tie.close (tie.spec entries-hold-requires returns tails-hold-requires returns-2)
+    tie.close (tie.spec table-requires entries-hold-in-requires returns tails-hold-requires returns-2)

@@ -11,15 +11,15 @@ use Rattle.judging.proofs.tails_hold.Statement.{statement}
 use Rattle.judging.proofs.tails_hold.Tie as tie
 
 abbrev Inv-loop : tie.InvT-loop
-Inv-loop s count at₀ i₀ at i = Looked s count at i
+Inv-loop table s count at₀ i₀ at i = Looked s count at i
 
 abbrev μ-loop : tie.MeasureT-loop
-μ-loop s count at₀ i₀ at i = count - i
+μ-loop table s count at₀ i₀ at i = count - i
 
 loop-holds : tie.Need-loop-holds Inv-loop μ-loop
 loop-holds c =
     let start = c .before in
-    looked-start (start .args .s .now) (start .args .count) (start .pre)
+    looked-start (start .args .s .now) (start .args .count) (start .pre .1)
 
 tail-at-requires : tie.Need-tail-at-requires Inv-loop μ-loop
 tail-at-requires c κs =
@@ -35,15 +35,15 @@ param-count-requires c κs =
     let l = at-loop .loop in
     looked-numbers (args .s .now) (args .count) (l .at) (l .i) (l .inv) (omega arith)
 
-entries-hold-requires : tie.Need-entries-hold-requires Inv-loop μ-loop
-entries-hold-requires c κs = search needs
+entries-hold-in-requires : tie.Need-entries-hold-in-requires Inv-loop μ-loop
+entries-hold-in-requires c κs = search needs
 
 returns : tie.Need-returns Inv-loop μ-loop
 returns c =
     let at-loop = c .before .before .before .before .before in
     let args = at-loop .before .before .args in
     let l = at-loop .loop in
-    looked-stop (args .s .now) (args .count) (l .at) (l .i) (l .inv) (omega arith) (tail-read (drop (l .at) (args .s .now)) _ _ _ (c .before .before .before .tail-at .ensures) (c .before .before .param-count .ensures .0) (c .before .entries-hold .ensures) ∙ not-true _ (c .if1 .taken))
+    looked-stop (args .s .now) (args .count) (l .at) (l .i) (l .inv) (omega arith) (tail-read (drop (l .at) (args .s .now)) _ _ _ (c .before .before .before .tail-at .ensures) (c .before .before .param-count .ensures .0) (c .before .entries-hold-in .ensures) ∙ not-true _ (c .if1 .taken))
 
 entry-len-requires : tie.Need-entry-len-requires Inv-loop μ-loop
 entry-len-requires c κs =
@@ -70,7 +70,7 @@ loop-again c =
     let at-loop = c .before .before .before .before .before .before in
     let args = at-loop .before .before .args in
     let l = at-loop .loop in
-    rw (c .entry-len .ensures .0) (looked-on (args .s .now) (args .count) (l .at) (l .i) (l .inv) (omega arith) (tail-read (drop (l .at) (args .s .now)) _ _ _ (c .before .before .before .before .tail-at .ensures) (c .before .before .before .param-count .ensures .0) (c .before .before .entries-hold .ensures) ∙ not-false _ (c .before .if1 .left)))
+    rw (c .entry-len .ensures .0) (looked-on (args .s .now) (args .count) (l .at) (l .i) (l .inv) (omega arith) (tail-read (drop (l .at) (args .s .now)) _ _ _ (c .before .before .before .before .tail-at .ensures) (c .before .before .before .param-count .ensures .0) (c .before .before .entries-hold-in .ensures) ∙ not-false _ (c .before .if1 .left)))
 
 returns-2 : tie.Need-returns-2 Inv-loop μ-loop
 returns-2 c =
@@ -88,7 +88,7 @@ tails-hold-spec =
     loop-holds
     tail-at-requires
     param-count-requires
-    entries-hold-requires
+    entries-hold-in-requires
     returns
     entry-len-requires
     add-at

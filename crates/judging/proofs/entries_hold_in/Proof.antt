@@ -1,17 +1,17 @@
--- `judging::entries_hold` meets its contract. The invariant is `Judged`: what is left to be judged decides. Assumes nothing.
+-- `judging::entries_hold_in` meets its contract. The invariant is `Judged`: what is left to be judged decides. Assumes nothing.
 use mathlib.Core.Path.{sym, _∙_}
 use Prim.Native.Nat.{_-_}
 use native.Mathlib.Omega.{arith}
 use borrow.Author.Tests.{not-true, not-false}
 use Rattle.judging.proofs.Walks.{Judged, judged-start, judged-end, judged-stop, judged-numbers, judged-size, judged-name, judged-on}
-use Rattle.judging.proofs.entries_hold.Statement.{statement}
-use Rattle.judging.proofs.entries_hold.Tie as tie
+use Rattle.judging.proofs.entries_hold_in.Statement.{statement}
+use Rattle.judging.proofs.entries_hold_in.Tie as tie
 
 abbrev Inv-loop : tie.InvT-loop
-Inv-loop kind s count at₀ from₀ to₀ i₀ at from to i = Judged kind s count at from to i
+Inv-loop table kind s count at₀ from₀ to₀ i₀ at from to i = Judged kind s count at from to i
 
 abbrev μ-loop : tie.MeasureT-loop
-μ-loop kind s count at₀ from₀ to₀ i₀ at from to i = count - i
+μ-loop table kind s count at₀ from₀ to₀ i₀ at from to i = count - i
 
 loop-holds : tie.Need-loop-holds Inv-loop μ-loop
 loop-holds c =
@@ -28,7 +28,9 @@ part-entry-holds-end : tie.Need-part-entry-holds-end Inv-loop μ-loop
 part-entry-holds-end c = c .before .loop .inv .name-end
 
 entry-holds-requires : tie.Need-entry-holds-requires Inv-loop μ-loop
-entry-holds-requires c κs = c .before .before .loop .inv .place
+entry-holds-requires c κs =
+    let at-loop = c .before .before in
+    (at-loop .before .before .pre, at-loop .loop .inv .place)
 
 returns : tie.Need-returns Inv-loop μ-loop
 returns c =
@@ -92,8 +94,8 @@ returns-2 c =
     let l = at-loop .loop in
     judged-end (args .kind) (args .s .now) (args .count) (l .at) (l .from) (l .to) (l .i) (l .inv) (omega arith)
 
-pub entries-hold-spec : {M : Type 1} → statement M
-entries-hold-spec =
+pub entries-hold-in-spec : {M : Type 1} → statement M
+entries-hold-in-spec =
     tie.close
     (tie.spec
     Inv-loop
