@@ -1,17 +1,17 @@
 -- Comparing two texts from the front: the step over one byte of each, and the ends. Assumes nothing.
-use Prim.Native.Nat.{ℕ, _+_, _≤_, _<_}
+use Prim.Native.Nat.{ℕ, _+_, _≤_, _<_, min}
 use mathlib.Core.Path.{_≡_, refl, sym, ap}
-use mathlib.Core.Bool.{Bool, true, false, _&&_, and-false}
+use mathlib.Core.Bool.{Bool, true, false, _&&_, and-false, or-false}
 use mathlib.Core.List.{[], _∷_, map}
 use mathlib.Core.Logic.{⊎-elim}
 use native.Mathlib.Numerals.{add-one}
 use native.Mathlib.Omega.{arith}
-use lib.Dec.{eqb}
+use lib.Dec.{ltb, eqb}
 use lib.ListN.{length, drop, getD, drop-of-length-le, List·getD-map}
 use lib.Seq.{drop-cons}
 use borrow.Author.Tests.{eq-eqb, ne-eqb, lt-ltb, le-ltb}
 use Rattle.format.specs.Bytes.{Bytes, same, before, begins, occurs, lower, sameLetters}
-use Rattle.format.proofs.Lists.{bcase, same-eq}
+use Rattle.format.proofs.Lists.{bcase, below, same-eq}
 
 -- ---- begins: p and t from a place on
 
@@ -60,28 +60,25 @@ lower-at s i = List·getD-map lower s i 0
 
 -- ---- before
 
-pub before-end : (a b : Bytes) (i : ℕ) → length b ≤ i → before (drop i a) (drop i b) ≡ false
+-- at the end of the shorter one
+pub before-ends : (a b : Bytes) (i : ℕ) → i ≡ min (length a) (length b) → before (drop i a) (drop i b) ≡ ltb (length a) (length b)
 unfolding before
-before-end a b i h = rw (drop-of-length-le b {i = i} h) refl
-
-pub before-shorter : (a b : Bytes) (i : ℕ) → length a ≤ i → i < length b → before (drop i a) (drop i b) ≡ true
-unfolding before
-before-shorter a b i h k = rw (drop-of-length-le a {i = i} h, drop-cons b i 0 k) refl
+before-ends a b i e =
+    ⊎-elim
+    (λ l. rw (drop-of-length-le a {i = i} (omega arith), drop-cons b i 0 (omega arith), lt-ltb (length a) (length b) l) refl)
+    (λ l. rw (drop-of-length-le b {i = i} (omega arith), le-ltb (length a) (length b) l) refl)
+    (below (length a) (length b))
 
 module _ (a b : Bytes) (i : ℕ) (ha : i < length a) (hb : i < length b) where
-  pub before-less : getD a i 0 < getD b i 0 → before (drop i a) (drop i b) ≡ true
+  pub before-differs : (getD b i 0 ≡ getD a i 0 → ⊥) → before (drop i a) (drop i b) ≡ ltb (getD a i 0) (getD b i 0)
   unfolding before
-  before-less h = rw (drop-cons a i 0 ha, drop-cons b i 0 hb, lt-ltb (getD a i 0) (getD b i 0) h) refl
+  before-differs h =
+      rw (drop-cons a i 0 ha, drop-cons b i 0 hb, ne-eqb (getD a i 0) (getD b i 0) (λ e. h (sym e))) (or-false (ltb (getD a i 0) (getD b i 0)))
 
-  pub before-more : getD b i 0 < getD a i 0 → before (drop i a) (drop i b) ≡ false
+  pub before-step : getD b i 0 ≡ getD a i 0 → before (drop i a) (drop i b) ≡ before (drop (i + 1) a) (drop (i + 1) b)
   unfolding before
-  before-more h =
-      rw (drop-cons a i 0 ha, drop-cons b i 0 hb, le-ltb (getD a i 0) (getD b i 0) (omega arith), ne-eqb (getD a i 0) (getD b i 0) (λ e. omega arith)) refl
-
-  pub before-step : getD b i 0 ≤ getD a i 0 → getD a i 0 ≤ getD b i 0 → before (drop i a) (drop i b) ≡ before (drop (i + 1) a) (drop (i + 1) b)
-  unfolding before
-  before-step h k =
-      rw (drop-cons a i 0 ha, drop-cons b i 0 hb, le-ltb (getD a i 0) (getD b i 0) h, eq-eqb (getD a i 0) (getD b i 0) (omega arith), add-one i) refl
+  before-step e =
+      rw (drop-cons a i 0 ha, drop-cons b i 0 hb, le-ltb (getD a i 0) (getD b i 0) (omega arith), eq-eqb (getD a i 0) (getD b i 0) (sym e), add-one i) refl
 
 -- ---- occurs
 

@@ -3,6 +3,8 @@
 
 ghost use mathlib.Core.Path.{_≡_};
 ghost use mathlib.Core.List.{map};
+ghost use Prim.Native.Nat.{min};
+ghost use lib.ListN.{length};
 ghost use Rattle.format.specs.Bytes.{same, before, occurs, lower, sameLetters};
 
 // The same bytes.
@@ -22,24 +24,29 @@ pub fn same(a: &[u8], b: &[u8]) -> bool
     true
 }
 
+// The length of the shorter one.
+fn shorter(a: &[u8], b: &[u8]) -> usize
+    ensures { λ r. ⌜ r ≡ min (length (now (a .entry))) (length (now (b .entry))) ⌝ }
+{
+    if b.len() < a.len() {
+        return b.len();
+    }
+    a.len()
+}
+
 // Strictly before in byte order; a prefix comes first.
 pub fn before(a: &[u8], b: &[u8]) -> bool
     ensures { λ r. ⌜ r ≡ before (now (a .entry)) (now (b .entry)) ⌝ }
 {
+    let end = shorter(a, b);
     let mut i = 0;
-    while i < b.len() {
-        if a.len() <= i {
-            return true;
-        }
-        if a[i] < b[i] {
-            return true;
-        }
-        if b[i] < a[i] {
-            return false;
+    while i < end {
+        if b[i] != a[i] {
+            return a[i] < b[i];
         }
         i += 1;
     }
-    false
+    a.len() < b.len()
 }
 
 // A to Z become a to z.
