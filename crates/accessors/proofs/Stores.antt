@@ -27,7 +27,7 @@ from-start n s =
     let e : n - 0 ≡ n = omega arith in
     ap (λ (i : ℕ). take i s) e
 
-type-at : (l : CpimMessage) (head : Bytes) (k : Message) → Holds (headLent l head) k → take (l .typelen - 0) (drop 0 head) ≡ k .type
+pub type-at : (l : CpimMessage) (head : Bytes) (k : Message) → Holds (headLent l head) k → take (l .typelen - 0) (drop 0 head) ≡ k .type
 type-at m head k held =
     let p = held-parts (headLent m head) k held in
     from-start (m .typelen) head
@@ -35,7 +35,7 @@ type-at m head k held =
     ∙ ap (take (m .typelen)) (p .type-part)
     ∙ take-at (k .type) (replicate (256 - length (k .type)) 0) (m .typelen) (sym (p .typelen))
 
-body-at : (m : CpimMessage) (head store : Bytes) (k : Message) → Holds (bothLent m head store) k → take (m .bodylen - 0) (drop 0 store) ≡ k .body
+pub body-at : (m : CpimMessage) (head store : Bytes) (k : Message) → Holds (bothLent m head store) k → take (m .bodylen - 0) (drop 0 store) ≡ k .body
 body-at m head store k held =
     from-start (m .bodylen) store ∙ ap (λ (n : ℕ). take n store) (held-parts (bothLent m head store) k held .bodylen) ∙ held .stored
 

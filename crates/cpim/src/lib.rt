@@ -2,6 +2,8 @@
 // numbers, each with the contract of the function that it passes on. A slice crosses as its place and its length, a record as its numbers in
 // the order in which crates/format, text_parts and whole declare it. What is lent to be written must overlap nothing else that is lent.
 
+mod lookups;
+
 use format::Answer;
 use format::CpimHeader;
 use format::CpimMessage;

@@ -40,7 +40,7 @@ Laid [] s = Unit {0}
 Laid (x ∷ xs) s = Begins x s × Laid xs (drop (itemSize x) s)
 
 -- An entry as it is stored: its item, and the bytes of its parameters behind it.
-abbrev itemIn : Stored → Item
+abbrev pub itemIn : Stored → Item
 itemIn e = record { name = e .name; value = e .value; params = e .params }
 
 module _ (e : Stored) (rest : Bytes) where
@@ -53,7 +53,7 @@ module _ (e : Stored) (rest : Bytes) where
   begun-value : valueLength here ≡ length (e .value)
   begun-value = sym (value-length here (read-shape e rest)) ∙ ap length (read-value e rest)
 
-  begins : Begins (itemIn e) here
+  pub begins : Begins (itemIn e) here
   unfolding itemSize nameIn valueIn storedIn storedSize
   begins =
       record {
