@@ -64,8 +64,14 @@ pub fn utf8_end(s: &[u8], from: usize) -> usize
     at
 }
 
+// Of a short text the largest byte is looked at first: most are ASCII, and this much is compiled into the caller.
 pub fn is_utf8(s: &[u8]) -> bool
     ensures { λ r. ⌜ r ≡ isUtf8 (now (s .entry)) ⌝ }
 {
+    if s.len() < 64 {
+        if utf8_blocks::largest(s) < 0x80 {
+            return true;
+        }
+    }
     utf8_end(s, 0) == s.len()
 }
