@@ -53,11 +53,28 @@ fn in_class(class: Class, b: u8) -> bool
     }
 }
 
-// Whether a byte of s is in the class. It reads to the end, so that the loop has one exit: a text that is accepted is
-// read whole anyway.
+// Whether a byte of s is in the class: a byte at a time, and no further than the first.
+fn any_short(class: Class, s: &[u8]) -> bool
+    ensures { λ r. ⌜ r ≡ any (inClass class) (now (s .entry)) ⌝ }
+{
+    let mut at = 0;
+    while at < s.len() {
+        if in_class(class, s[at]) {
+            return true;
+        }
+        at += 1;
+    }
+    false
+}
+
+// The same. From 8 bytes on it reads to the end, so that the loop has one exit and many bytes are tested at a time: a text that is
+// accepted is read whole anyway.
 pub fn any_in(class: Class, s: &[u8]) -> bool
     ensures { λ r. ⌜ r ≡ any (inClass class) (now (s .entry)) ⌝ }
 {
+    if s.len() < 8 {
+        return any_short(class, s);
+    }
     let mut found = false;
     let mut i = 0;
     while i < s.len() {

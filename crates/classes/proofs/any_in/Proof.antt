@@ -17,6 +17,12 @@ Inv-loop class s found₀ i₀ found i = (i ≤ length s) × (any (inClass class
 abbrev μ-loop : tie.MeasureT-loop
 μ-loop class s found₀ i₀ found i = length s - i
 
+any-short-requires : tie.Need-any-short-requires Inv-loop μ-loop
+any-short-requires c κs = search needs
+
+returns : tie.Need-returns Inv-loop μ-loop
+returns c = search needs
+
 loop-holds : tie.Need-loop-holds Inv-loop μ-loop
 loop-holds c = (omega arith, refl)
 
@@ -35,7 +41,7 @@ loop-less c = search needs
 loop-again : tie.Need-loop-again Inv-loop μ-loop
 loop-again c =
     let at-loop = c .before .before .before in
-    let args = at-loop .before .before .args in
+    let args = at-loop .before .before .before .args in
     let i = at-loop .loop .i in
     let found = at-loop .loop .found in (
       omega arith,
@@ -44,10 +50,10 @@ loop-again c =
           ∙ ap (λ (b : Bool). (found || b) || any (inClass (args .class)) (drop (i + 1) (args .s .now))) (sym (c .in-class .ensures)),
     )
 
-returns : tie.Need-returns Inv-loop μ-loop
-returns c =
+returns-2 : tie.Need-returns-2 Inv-loop μ-loop
+returns-2 c =
     let at-loop = c .before in
-    let args = at-loop .before .before .args in
+    let args = at-loop .before .before .before .args in
     sym (at-loop .loop .inv .1 ∙ any-end (inClass (args .class)) (args .s .now) (at-loop .loop .i) (at-loop .loop .found) (omega arith))
 
 pub any-in-spec : {M : Type 1} → statement M
@@ -56,10 +62,12 @@ any-in-spec =
     (tie.spec
     Inv-loop
     μ-loop
+    any-short-requires
+    returns
     loop-holds
     shared-slice-read-in-class
     in-class-requires
     add-i
     loop-less
     loop-again
-    returns)
+    returns-2)
