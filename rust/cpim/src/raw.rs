@@ -19,7 +19,7 @@ pub struct Record {
 impl Record {
     /// The bytes of the head store that the message takes.
     pub fn need(&self) -> usize {
-        256 + self.headerlen + self.contentlen
+        self.headerlen.saturating_add(self.contentlen).saturating_add(256)
     }
 
     pub fn fields(&mut self) -> [&mut usize; 6] {

@@ -58,6 +58,16 @@ fn each_clause_in_words() {
 }
 
 #[test]
+fn shared_between_threads() {
+    fn shared<T: Send + Sync + Clone>(_: &T) {}
+    let m = notice();
+    shared(&m);
+    std::thread::scope(|s| {
+        (0..4).for_each(|_| drop(s.spawn(|| assert_eq!((m.headers().len(), m.get_header("To")), (2, None)))))
+    });
+}
+
+#[test]
 fn a_store_that_grows_keeps_the_message() {
     let mut m = notice();
     for k in 0..48 {

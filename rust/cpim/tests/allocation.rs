@@ -1,0 +1,67 @@
+//! `cpim::lent` allocates nothing: every call is counted.
+
+use cpim::lent::{body_of, Header, Message, MOST, MOST_ALONE};
+use cpim::Refusal;
+use std::alloc::{GlobalAlloc, Layout, System};
+use std::cell::Cell;
+
+struct Counting;
+
+thread_local! {
+    static COUNT: Cell<usize> = const { Cell::new(0) };
+}
+
+// SAFETY: passed on as it is to the system's allocator.
+unsafe impl GlobalAlloc for Counting {
+    unsafe fn alloc(&self, layout: Layout) -> *mut u8 {
+        COUNT.with(|count| count.set(count.get() + 1));
+        unsafe { System.alloc(layout) }
+    }
+
+    unsafe fn dealloc(&self, place: *mut u8, layout: Layout) {
+        unsafe { System.dealloc(place, layout) }
+    }
+}
+
+#[global_allocator]
+static ALLOCATOR: Counting = Counting;
+
+const TEXT: &[u8] =
+    b"Content-type: Message/CPIM\n\nFrom;a=b: <im:a@b>\n\nContent-type: text/plain\nContent-ID: 7\n\nHi\n\nHo";
+
+fn everything() -> Result<usize, Refusal> {
+    let (mut head, mut body, mut store, mut out) = ([0; 2_000], [0; 100], [0; 200], [0; 2_000]);
+    let mut h = Header::new(b"Umbrella", &mut store)?;
+    h.with_param(b"depot", b"north")?;
+    let mut seen = h.value().len() + h.params(&mut [0; MOST_ALONE])?.map(|p| p.value().len()).sum::<usize>();
+
+    let mut m = Message::parse(TEXT, &mut head, &mut body)?;
+    m.set_header(b"To", b"a")?;
+    m.add_header(b"To", b"b")?;
+    m.add_header_obj(b"Subject", &h)?;
+    m.add_content_header(b"b", b"c")?;
+    m.with_subject_lang(b"Schirm", b"de")?;
+    m.with_ns(b"a", b"b")?;
+    m.set_body(b"\xFF")?;
+    m.run(&[]);
+    seen +=
+        usize::from(m.set_header(b"", b"").is_err()) + usize::from(m.comes_back()) + usize::from(m.loss().is_some());
+    let mut rows = [0; MOST];
+    let places = m.places(&mut rows)?;
+    seen += places.named("To").count()
+        + places.content_headers().count()
+        + places.first("NS").map_or(0, |e| e.value().len());
+    seen += m.get_header("From").map_or(0, str::len) + m.content_type().len() + m.body().len() + m.write(&mut out)?;
+    Ok(seen + body_of(TEXT, &mut [0; 100])?.len())
+}
+
+#[test]
+fn nothing_is_allocated() {
+    let before = COUNT.with(Cell::get);
+    let seen = everything();
+    let after = COUNT.with(Cell::get);
+    assert!(seen.is_ok_and(|n| n > 200), "{seen:?}");
+    assert_eq!(after, before);
+    drop(vec![0; 10]);
+    assert_eq!(COUNT.with(Cell::get), after + 1, "allocations are counted");
+}
