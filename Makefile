@@ -11,10 +11,12 @@ prove: rt
 	@echo
 	@sed -n '/^pub record Demand3/,$$p' crates/format/specs/Demand3.antt
 
-# A first look: the program that shows what is read of a notice, proved with all that it rests on, then run on one.
+# A first look: the programs, proved with all that they rest on, then run on a notice.
 show: rt
-	@rt check showcpim
+	@rt check showcpim wholecpim
+	@echo
 	@target/bin/showcpim <examples/umbrella.cpim
+	@target/bin/wholecpim <examples/umbrella.cpim
 
 # rt ci removes target/ and proves everything; the comparison comes behind it and finds all of that proved. The last line is rt's
 # own once more: 'N passed, 0 failed'.
@@ -28,10 +30,11 @@ test: rt cargo
 
 # The programs on the notices of examples/, held to what stands beside each.
 examples: rt
-	@out=$$(rt check showcpim) || { printf '%s\n' "$$out"; exit 1; }
+	@out=$$(rt check showcpim wholecpim) || { printf '%s\n' "$$out"; exit 1; }
 	@for notice in examples/*.cpim; do \
 		target/bin/showcpim <"$$notice" | cmp - "$${notice%.cpim}.show" || exit 1; \
-	done; echo "examples: each notice is shown as the paper says"
+		target/bin/wholecpim <"$$notice" | cmp - "$${notice%.cpim}.whole" || exit 1; \
+	done; echo "examples: the programs print what stands beside each notice"
 
 # The leaves beside Rust's standard library and the source; lists of calls, and texts read and written, beside the source; the gateway's crate.
 compare: cargo library calls gateway notice

@@ -2,30 +2,27 @@
 use Prim.Native.Nat.{ℕ, _≤_, _<_}
 use mathlib.Core.Path.{_≡_, refl, sym, ap, _∙_}
 use mathlib.Core.Bool.{Bool, true}
-use mathlib.Core.List.{[], _++_, append-nil}
+use mathlib.Core.List.{_++_, append-nil}
 use mathlib.Core.Option.{Option, some}
 use native.Mathlib.Omega.{arith}
 use lib.ListN.{length}
 use borrow.Author.Tests.{lt-leb, le-leb}
 use Rattle.format.specs.Bytes.{Bytes}
-use Rattle.format.specs.Refusals.{Out, accepted, refused, numbers, table, tooShort}
+use Rattle.format.specs.Refusals.{Out, accepted, numbers, table}
 use Rattle.format.specs.Message.{Message}
-use Rattle.format.specs.Calls.{Stores}
 use Rattle.format.specs.Layout.{Lent, Holds, Held, message, emptyMessage}
-use Rattle.format.specs.Lending.{headLent, bothLent, lengths, lengthOf, Parsed}
+use Rattle.format.specs.Lending.{headLent, bothLent, Parsed}
 use Rattle.format.specs.Reading.{read}
 use Rattle.format.specs.LookingUp.{getType, countHeaders, countParams, countContents}
 use Rattle.format.specs.Showing.{showNumbers, showMessage, show, showcpim}
 use Rattle.format.specs.declared.CpimMessage.{CpimMessage}
 use Rattle.format.specs.declared.Numbers.{Numbers}
-use Rattle.format.proofs.Steps.{refused-number}
-use Rattle.format.proofs.Demand3.{parsed-holds}
 use Rattle.held.specs.Holding.{messageHolds}
 use Rattle.held.proofs.Parts.{held-parts}
-use Rattle.held.proofs.Messages.{holds-held}
 use Rattle.held.proofs.Cases.{in-head}
 use Rattle.parts.specs.Found.{Found}
 use Rattle.showing.specs.Lines.{messageLines}
+use Rattle.showing.proofs.Read.{stores, answers, is-refused, is-read}
 
 -- Of a message held.
 module _ (m : CpimMessage) (head kind : Bytes) (found : Bool) (typed : (o : Option Message) → Held (headLent m head) o → Found (getType o) found kind) where
@@ -50,46 +47,17 @@ too-long input h = sym (rw (lt-leb _ _ h) (append-nil _))
 -- Of an input that is read.
 module _ (input head body : Bytes) (k : Lent) (n : Numbers) (fits : length input ≤ 65536) (h : length head ≡ 65536) (b : length body ≡ 65536)
     (parsed : Parsed input (bothLent emptyMessage head body) k n) where
-  abbrev lent : Lent
-  lent = bothLent emptyMessage head body
-
-  room : lengths lent ≡ record { head = 65536; body = 65536 }
-  unfolding lengths lengthOf
-  room = rw (h, b) refl
-
-  as-read : showcpim input ≡ showNumbers n ++ showMessage (read input (lengths lent))
+  as-read : showcpim input ≡ showNumbers n ++ showMessage (read input stores)
   unfolding showcpim show
-  as-read =
-      rw (le-leb _ _ fits)
-      (ap (λ (s : Stores). showNumbers (numbers (read input s)) ++ showMessage (read input s)) (sym room)
-      ∙ ap (λ (x : Numbers). showNumbers x ++ showMessage (read input (lengths lent))) (sym (parsed .answered)))
+  as-read = rw (le-leb _ _ fits) (ap (λ (x : Numbers). showNumbers x ++ showMessage (read input stores)) (sym (answers input head body k n h b parsed)))
 
   pub shown-refused : (n .number ≡ 0 → ⊥) → showNumbers n ≡ showcpim input
-  unfolding showMessage numbers
-  shown-refused z = sym (as-read ∙ ap (λ (s : Bytes). showNumbers n ++ s) (by (read input (lengths lent)) (parsed .answered)) ∙ append-nil (showNumbers n))
-    where
-      by : (o : Out Message) → n ≡ numbers o → showMessage o ≡ []
-      by (accepted m) e = absurd (z (ap (λ (x : Numbers). x .number) e))
-      by (refused r) e = refl
+  unfolding showMessage
+  shown-refused z =
+      sym
+      (as-read
+      ∙ ap (λ (o : Out Message). showNumbers n ++ showMessage o) (is-refused input head body k n h b parsed z .1 .0)
+      ∙ append-nil (showNumbers n))
 
-  module _ (z : n .number ≡ 0) where
-    -- the message read
-    pub is-read : (m : Message) × (read input (lengths lent) ≡ accepted m)
-    unfolding numbers
-    is-read = by (read input (lengths lent)) refl (parsed .answered)
-      where
-        by : (o : Out Message) → read input (lengths lent) ≡ o → n ≡ numbers o → (m : Message) × (read input (lengths lent) ≡ accepted m)
-        by (accepted m) e f = (m, e)
-        by (refused r) e f = absurd (refused-number r (ap (λ (x : Numbers). x .number) (sym f) ∙ z))
-
-    in-both : Holds k (is-read .0)
-    in-both = parsed-holds input lent k n (is-read .0) parsed (is-read .1)
-
-    pub in-store : Holds (headLent (k .message) (k .head)) (is-read .0)
-    in-store = record { within = in-both .within; recorded = in-both .recorded; laid = in-both .laid; stored = tt }
-
-    pub read-holds : messageHolds (k .message) (k .head) ≡ true
-    read-holds = holds-held k (is-read .0) in-both
-
-    pub shown-accepted : showNumbers n ++ showMessage (accepted (is-read .0)) ≡ showcpim input
-    shown-accepted = sym (as-read ∙ ap (λ (o : Out Message). showNumbers n ++ showMessage o) (is-read .1))
+  pub shown-accepted : (z : n .number ≡ 0) → showNumbers n ++ showMessage (accepted (is-read input head body k n h b parsed z .0)) ≡ showcpim input
+  shown-accepted z = sym (as-read ∙ ap (λ (o : Out Message). showNumbers n ++ showMessage o) (is-read input head body k n h b parsed z .1))

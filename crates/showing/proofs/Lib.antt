@@ -1,2 +1,3 @@
+pub mod Read
 mod Lines
 mod Cases

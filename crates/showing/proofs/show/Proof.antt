@@ -2,7 +2,8 @@
 use native.Mathlib.Omega.{arith}
 use borrow.Author.Needs.{needs}
 use Rattle.decimals.proofs.Puts.{puts-then, puts-as}
-use Rattle.showing.proofs.Cases.{too-long, shown-refused, in-store, read-holds, shown-accepted}
+use Rattle.showing.proofs.Read.{in-store, read-holds}
+use Rattle.showing.proofs.Cases.{too-long, shown-refused, shown-accepted}
 use Rattle.showing.proofs.show.Statement.{statement}
 use Rattle.showing.proofs.show.Tie as tie
 
@@ -40,7 +41,7 @@ put-held-requires : tie.Need-put-held-requires
 put-held-requires c κs =
     let start = c .before .before .before .before .before .before .before .before .before .before .before .before .before .before .before .before .before .before .before .before in
     let args = start .args in
-    (omega (arith, start .pre .2, c .before .before .before .before .before .before .put-numbers2 .ensures .within, c .before .before .before .before .before .before .put-numbers2 .kept .0), read-holds (args .input .now) (args .head .now) (args .body .now) _ _ (c .before .before .before .before .before .before .before .before .before .before .before .before .before .before .before .if1 .left) (start .pre .0) (start .pre .1) (c .before .before .before .before .before .before .before .before .before .before .before .before .parse-cpim .ensures) (c .before .before .if2 .left))
+    (omega (arith, start .pre .2, c .before .before .before .before .before .before .put-numbers2 .ensures .within, c .before .before .before .before .before .before .put-numbers2 .kept .0), read-holds (args .input .now) (args .head .now) (args .body .now) _ _ (start .pre .0) (start .pre .1) (c .before .before .before .before .before .before .before .before .before .before .before .before .parse-cpim .ensures) (c .before .before .if2 .left))
 
 same-length-5 : tie.Need-same-length-5
 same-length-5 c = search needs
@@ -56,7 +57,7 @@ returns-3 c =
     let start = c .before .before .before .before .before .before .before .before .before .before .before .before .before .before .before .before .before .before .before .before .before .before .before in
     let args = start .args in
     puts-as _ 1712 (shown-accepted (args .input .now) (args .head .now) (args .body .now) _ _ (c .before .before .before .before .before .before .before .before .before .before .before .before .before .before .before .before .before .before .if1 .left) (start .pre .0) (start .pre .1) (c .before .before .before .before .before .before .before .before .before .before .before .before .before .before .before .parse-cpim .ensures) (c .before .before .before .before .before .if2 .left)) (omega arith)
-    (puts-then (omega arith) (c .before .before .before .before .before .before .before .before .before .put-numbers2 .ensures) (c .before .before .put-held .ensures _ (in-store (args .input .now) (args .head .now) (args .body .now) _ _ (c .before .before .before .before .before .before .before .before .before .before .before .before .before .before .before .before .before .before .if1 .left) (start .pre .0) (start .pre .1) (c .before .before .before .before .before .before .before .before .before .before .before .before .before .before .before .parse-cpim .ensures) (c .before .before .before .before .before .if2 .left))))
+    (puts-then (omega arith) (c .before .before .before .before .before .before .before .before .before .put-numbers2 .ensures) (c .before .before .put-held .ensures _ (in-store (args .input .now) (args .head .now) (args .body .now) _ _ (start .pre .0) (start .pre .1) (c .before .before .before .before .before .before .before .before .before .before .before .before .before .before .before .parse-cpim .ensures) (c .before .before .before .before .before .if2 .left))))
 
 pub show-spec : {M : Type 1} → statement M
 show-spec =
