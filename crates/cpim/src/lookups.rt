@@ -6,15 +6,17 @@ use format::CpimMessage;
 use format::Numbers;
 use spots::Pair;
 use spots::Part;
+use text_parts::BodyPlace;
 ghost use mathlib.Core.Path.{_≡_};
 ghost use mathlib.Core.Option.{Option};
 ghost use Rattle.format.specs.Message.{LoneHeader, Message};
 ghost use Rattle.format.specs.Layout.{Held, HeldAlone};
 ghost use Rattle.format.specs.Lending.{headLent, bothLent};
-ghost use Rattle.format.specs.LookingUp.{nthHeader, getHeader, getHeaderValue, getParam, getType, getBody, getContent, aloneValue, aloneParam, countHeaders, countParams, countContents, bodyAsStr};
+ghost use Rattle.format.specs.LookingUp.{nthHeader, getHeader, getHeaderValue, getParam, getType, getBody, getContent, aloneValue, aloneParam, countHeaders, countParams, countContents, bodyAsStr, address};
 ghost use Rattle.places.specs.Rows.{Placed};
+ghost use Rattle.text_parts.specs.Placing.{PlaceIs};
 ghost use Rattle.spots.specs.Spots.{PartIs, PairIs};
-ghost use Rattle.standing.specs.Standing.{contentPlace};
+ghost use Rattle.standing.specs.Standing.{contentPlace, addressPlace};
 ghost use Rattle.standing.specs.Standing as alone;
 ghost use Rattle.named_places.specs.Named.{headerPlace, valuePlace, paramPlace};
 
@@ -119,4 +121,20 @@ pub extern "C" fn cpim_places(m: CpimMessage, head: &[u8], out: &mut [usize]) ->
     ensures { λ r. ⌜ Placed (headLent m (now (head .entry))) (now (out .entry)) (now (out .exit)) r ⌝ }
 {
     places::places(m, head, out)
+}
+
+// The address in a value.
+#[no_mangle]
+pub extern "C" fn cpim_address(value: &[u8]) -> Part
+    ensures { λ r. ⌜ PartIs (now (value .entry)) (addressPlace (now (value .entry))) (address (now (value .entry))) r ⌝ }
+{
+    standing::address(value)
+}
+
+// The second call for the body without a store: a part of the text or of the buffer.
+#[no_mangle]
+pub extern "C" fn cpim_body_part<'a>(text: &'a [u8], buffer: &'a [u8], length: usize) -> BodyPlace
+    ensures { λ r. ⌜ PlaceIs (now (text .entry)) (now (buffer .entry)) length r ⌝ }
+{
+    text_parts::body_place(text, buffer, length)
 }

@@ -3,7 +3,7 @@
 use Prim.Native.Nat.{ℕ, _+_}
 use mathlib.Core.Option.{Option, none, some}
 use lib.ListN.{length}
-use Rattle.format.specs.Bytes.{total}
+use Rattle.format.specs.Bytes.{Bytes, total, upTo, less-sign}
 use Rattle.format.specs.Message.{LoneHeader, Message, needHeader}
 use Rattle.spots.specs.Spots.{entryPlace}
 
@@ -16,3 +16,7 @@ contentPlace (some m) n = entryPlace (256 + total needHeader (m .headers)) (m .c
 unfoldable pub paramPlace : Option LoneHeader → ℕ → ℕ
 paramPlace none n = 0
 paramPlace (some h) n = entryPlace (16 + length (h .value)) (h .params) n
+
+-- the address in a value: behind the first `<`
+unfoldable pub addressPlace : Bytes → ℕ
+addressPlace v = length (upTo less-sign v) + 1

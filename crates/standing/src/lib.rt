@@ -1,6 +1,7 @@
 // Document 01, "Looking up", by place: type, body and content headers of a message, value and parameters of a header alone. Any record and
-// any bytes may be lent, and any n asked for.
+// any bytes may be lent, and any n asked for. The address in a value.
 
+use finding::find_byte;
 use format::CpimHeader;
 use format::CpimMessage;
 use held::header_holds;
@@ -12,9 +13,9 @@ ghost use mathlib.Core.Option.{Option};
 ghost use Rattle.format.specs.Message.{LoneHeader, Message};
 ghost use Rattle.format.specs.Layout.{Held, HeldAlone};
 ghost use Rattle.format.specs.Lending.{headLent, bothLent};
-ghost use Rattle.format.specs.LookingUp.{getType, getBody, getContent, aloneValue, aloneParam};
+ghost use Rattle.format.specs.LookingUp.{getType, getBody, getContent, aloneValue, aloneParam, address};
 ghost use Rattle.spots.specs.Spots.{PartIs, PairIs};
-ghost use Rattle.standing.specs.Standing.{contentPlace, paramPlace};
+ghost use Rattle.standing.specs.Standing.{contentPlace, paramPlace, addressPlace};
 
 pub fn content_type(m: CpimMessage, head: &[u8]) -> Part
     ensures { λ r. ⌜ ((o : Option Message) → Held (headLent m (now (head .entry))) o → PartIs (now (head .entry)) 0 (getType o) r) ⌝ }
@@ -102,4 +103,24 @@ pub fn header_param(h: CpimHeader, store: &[u8], n: usize) -> Pair
         };
     }
     nth_pair(store, 16 + h.valuelen, h.size, h.params, n)
+}
+
+// Behind the first `<`.
+pub fn address(value: &[u8]) -> Part
+    ensures { λ r. ⌜ PartIs (now (value .entry)) (addressPlace (now (value .entry))) (address (now (value .entry))) r ⌝ }
+{
+    let mut found = false;
+    let part = parts::address(value, &mut found);
+    if !found {
+        return Part {
+            found: false,
+            start: 0,
+            length: 0,
+        };
+    }
+    Part {
+        found: true,
+        start: find_byte(value, b'<') + 1,
+        length: part.len(),
+    }
 }

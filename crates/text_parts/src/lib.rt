@@ -9,11 +9,13 @@ use sections::crlf_sections;
 use sections::first_three;
 use utf8::is_utf8;
 ghost use mathlib.Core.Path.{_≡_};
-ghost use Prim.Native.Nat.{_≤_};
+ghost use mathlib.Core.Bool.{true};
+ghost use Prim.Native.Nat.{_-_, _≤_};
 ghost use lib.ListN.{length, drop};
 ghost use Rattle.format.specs.Limits.{maxText};
 ghost use Rattle.format.specs.Refusals.{numbers};
-ghost use Rattle.format.specs.LookingUp.{findBody, bodyLengthOf, bufferAfter, bodyPart};
+ghost use Rattle.format.specs.LookingUp.{findBody, bodyLengthOf, bufferAfter, inText, bodyPart};
+ghost use Rattle.text_parts.specs.Placing.{PlaceIs};
 ghost use Rattle.text_parts.specs.Judging.{Judged, bodyBehind};
 
 pub const MAX_PARSE_SIZE: usize = 20971520;
@@ -41,6 +43,14 @@ pub enum Judgement {
 pub struct LengthAnswer {
     pub number: u64,
     pub carried: u64,
+    pub length: usize,
+}
+
+// Where the second call's part stands: whether in the text, else in the buffer; where it begins, and its length.
+#[repr(C)]
+pub struct BodyPlace {
+    pub in_text: bool,
+    pub start: usize,
     pub length: usize,
 }
 
@@ -153,7 +163,8 @@ pub fn read_body(text: &[u8], buffer: &mut [u8]) -> LengthAnswer
 
 // Part of the text under CRLFCRLF, part of the buffer under LFLF: its first bytes, so many.
 pub fn body_part<'a>(text: &'a [u8], buffer: &'a [u8], len: usize) -> &'a [u8]
-    ensures { λ r. ⌜ now r ≡ bodyPart (now (text .entry)) (now (buffer .entry)) len ⌝ }
+    ensures part { λ r. ⌜ now r ≡ bodyPart (now (text .entry)) (now (buffer .entry)) len ⌝ }
+    ensures behind { λ r. ⌜ (inText (now (text .entry)) ≡ true → now r ≡ drop (length (now (text .entry)) - length (now r)) (now (text .entry))) ⌝ }
 {
     let judgement = judge(text);
     let Judgement::Parted {
@@ -178,4 +189,24 @@ pub fn body_part<'a>(text: &'a [u8], buffer: &'a [u8], len: usize) -> &'a [u8]
         return &buffer[..0];
     }
     &buffer[..len]
+}
+
+// The same by place: under CRLFCRLF the body is the end of the text.
+pub fn body_place<'a>(text: &'a [u8], buffer: &'a [u8], len: usize) -> BodyPlace
+    ensures { λ r. ⌜ PlaceIs (now (text .entry)) (now (buffer .entry)) len r ⌝ }
+{
+    let part = body_part(text, buffer, len);
+    let n = part.len();
+    if crlf_sections(text) {
+        return BodyPlace {
+            in_text: true,
+            start: text.len() - n,
+            length: n,
+        };
+    }
+    BodyPlace {
+        in_text: false,
+        start: 0,
+        length: n,
+    }
 }

@@ -8,10 +8,11 @@ use borrow.Author.Needs.{needs}
 use Rattle.format.specs.Reading.{Parts}
 use Rattle.sections.specs.declared.Places.the-variants.{Four}
 use Rattle.text_parts.specs.Judging.{Stands, Judged, bodyBehind}
-use Rattle.format.proofs.Lists.{rest-is}
+use Rattle.format.proofs.Lists.{rest-is, clash}
 use Rattle.bodies.proofs.Joining.{body-crlf}
 use Rattle.text_parts.proofs.Judging.{three, parts-stand}
 use Rattle.text_parts.proofs.Bodies.{part-none, part-long, part-inside, part-over, part-outside}
+use Rattle.text_parts.proofs.Ends.{empty-behind, rest-behind}
 use Rattle.text_parts.proofs.body_part.Statement.{statement}
 use Rattle.text_parts.proofs.body_part.Tie as tie
 
@@ -44,7 +45,7 @@ slice-aggregate-result c = search needs
 returns : tie.Need-returns
 returns c =
     let args = c .before .before .before .before .before .before .args in
-    part-none (args .text .now) _ (subst (Judged (args .text .now)) (c .before .enum-told .given .1) (c .before .before .before .judge .ensures)) (args .buffer .now) (args .len)
+    (part-none (args .text .now) _ (subst (Judged (args .text .now)) (c .before .enum-told .given .1) (c .before .before .before .judge .ensures)) (args .buffer .now) (args .len), λ _. empty-behind (args .text .now))
 
 body-len-requires : tie.Need-body-len-requires
 body-len-requires c κs = (rest-within c, stands-at c .short)
@@ -56,7 +57,7 @@ returns-2 : tie.Need-returns-2
 returns-2 c =
     let at = c .before .before .before in
     let args = at .before .before .before .before .before .before .args in
-    part-long (args .text .now) (parts-at at) (parts-stand _ _ _ _ _ _ _ _ (stands-at at)) _ (c .before .before .body-len .ensures) (omega arith) (args .buffer .now) (args .len)
+    (part-long (args .text .now) (parts-at at) (parts-stand _ _ _ _ _ _ _ _ (stands-at at)) _ (c .before .before .body-len .ensures) (omega arith) (args .buffer .now) (args .len), λ _. empty-behind (args .text .now))
 
 sub-result : tie.Need-sub-result
 sub-result c = omega (arith, rest-within (c .before .before .before))
@@ -72,10 +73,12 @@ returns-3 c =
     let at = c .before .before .before .before in
     let args = at .before .before .before .before .before .before .args in
     let rest = at .before .judgement .given .0 .1 .1 .1 .1 .1 .1 .0 in
-    let inside = sym (stands-at at .separated) ∙ c .before .if2 .taken in
-    rest-is (args .text .now) rest
-    ∙ sym (ap (λ (b : Bool). bodyBehind b (drop rest (args .text .now))) (c .before .if2 .taken) ∙ body-crlf (drop rest (args .text .now)))
-    ∙ part-inside (args .text .now) (parts-at at) (parts-stand _ _ _ _ _ _ _ _ (stands-at at)) _ (c .before .before .before .body-len .ensures) (omega arith) inside (args .buffer .now) (args .len)
+    let inside = sym (stands-at at .separated) ∙ c .before .if2 .taken in (
+      rest-is (args .text .now) rest
+          ∙ sym (ap (λ (b : Bool). bodyBehind b (drop rest (args .text .now))) (c .before .if2 .taken) ∙ body-crlf (drop rest (args .text .now)))
+          ∙ part-inside (args .text .now) (parts-at at) (parts-stand _ _ _ _ _ _ _ _ (stands-at at)) _ (c .before .before .before .body-len .ensures) (omega arith) inside (args .buffer .now) (args .len),
+      λ _. rest-behind (args .text .now) rest (rest-within at),
+    )
 
 slice-aggregate-result-3 : tie.Need-slice-aggregate-result-3
 slice-aggregate-result-3 c = search needs
@@ -83,9 +86,11 @@ slice-aggregate-result-3 c = search needs
 returns-4 : tie.Need-returns-4
 returns-4 c =
     let at = c .before .before .before .before .before in
-    let args = at .before .before .before .before .before .before .args in
-    part-over (args .text .now) (parts-at at) (parts-stand _ _ _ _ _ _ _ _ (stands-at at)) _ (c .before .before .before .before .body-len .ensures) (omega arith)
-    (sym (stands-at at .separated) ∙ c .before .before .if2 .left) (args .buffer .now) (args .len) (omega arith)
+    let args = at .before .before .before .before .before .before .args in (
+      part-over (args .text .now) (parts-at at) (parts-stand _ _ _ _ _ _ _ _ (stands-at at)) _ (c .before .before .before .before .body-len .ensures) (omega arith)
+          (sym (stands-at at .separated) ∙ c .before .before .if2 .left) (args .buffer .now) (args .len) (omega arith),
+      λ _. empty-behind (args .text .now),
+    )
 
 slice-aggregate-result-4 : tie.Need-slice-aggregate-result-4
 slice-aggregate-result-4 c = simp length-take (omega arith)
@@ -93,9 +98,11 @@ slice-aggregate-result-4 c = simp length-take (omega arith)
 returns-5 : tie.Need-returns-5
 returns-5 c =
     let at = c .before .before .before .before .before in
-    let args = at .before .before .before .before .before .before .args in
-    part-outside (args .text .now) (parts-at at) (parts-stand _ _ _ _ _ _ _ _ (stands-at at)) _ (c .before .before .before .before .body-len .ensures) (omega arith)
-    (sym (stands-at at .separated) ∙ c .before .before .if2 .left) (args .buffer .now) (args .len) (omega arith)
+    let args = at .before .before .before .before .before .before .args in (
+      part-outside (args .text .now) (parts-at at) (parts-stand _ _ _ _ _ _ _ _ (stands-at at)) _ (c .before .before .before .before .body-len .ensures) (omega arith)
+          (sym (stands-at at .separated) ∙ c .before .before .if2 .left) (args .buffer .now) (args .len) (omega arith),
+      λ i. clash i (sym (stands-at at .separated) ∙ c .before .before .if2 .left),
+    )
 
 pub body-part-spec : {M : Type 1} → statement M
 body-part-spec =
