@@ -1,6 +1,7 @@
-// What others link: reading, writing, the calls on a message and on a header alone, and what comes back, as C functions on byte slices and
-// numbers, each with the contract of the function that it passes on. A slice crosses as its place and its length, a record as its numbers in
-// the order in which crates/format, text_parts and whole declare it. What is lent to be written must overlap nothing else that is lent.
+// What others link: reading, writing, the calls on a message and on a header alone, what comes back, and (lookups.rt) the lookups, as C
+// functions on byte slices and numbers, each with the contract of the function that it passes on. A slice crosses as its place and its
+// length, a record as its numbers in the order in which crates/format, text_parts, spots and whole declare it. What is lent to be written
+// must overlap nothing else that is lent.
 
 mod lookups;
 

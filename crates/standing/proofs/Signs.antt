@@ -1,11 +1,9 @@
 -- The address in a value, where it stands. Assumes nothing.
-use Prim.Native.Nat.{ℕ, _+_, _<_, _≤_}
+use Prim.Native.Nat.{ℕ, _+_, _<_}
 use mathlib.Core.Path.{_≡_, refl, sym, ap, _∙_}
 use mathlib.Core.Bool.{Bool, true, false}
-use mathlib.Core.List.{[]}
 use mathlib.Core.Option.{Option, none, some}
 use native.Mathlib.Omega.{arith}
-use lib.Dec.{ltb}
 use lib.ListN.{length, take, drop, length-drop}
 use borrow.Author.Tests.{ltb-true}
 use Rattle.format.specs.Bytes.{Bytes, if_then_else_, upTo, past, has, less-sign, greater-sign}

@@ -1,9 +1,7 @@
 -- `text_parts::body_place` meets its contract. Assumes nothing.
-use Prim.Native.Nat.{_≤_}
 use mathlib.Core.Path.{_≡_, sym, _∙_}
 use mathlib.Core.Bool.{true}
 use native.Mathlib.Omega.{arith}
-use lib.ListN.{length}
 use borrow.Author.Needs.{needs}
 use Rattle.format.specs.LookingUp.{inText}
 use Rattle.text_parts.proofs.Ends.{inside-fits, inside-place, outside-place}
