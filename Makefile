@@ -58,7 +58,7 @@ notice: calls
 # What the leaves and the gateway's crate cost, as ratios (docs/BENCHMARKS.md).
 bench: cargo library calls
 	@cargo run --release --offline --quiet --manifest-path rust/Cargo.toml --bin bench
-	@cargo run --release --offline --quiet --manifest-path rust/Cargo.toml --bin times
+	@cargo run --release --offline --quiet --manifest-path rust/Cargo.toml --bin workloads
 
 # What rt prints besides its progress is shown where it fails.
 library: rt

@@ -1,10 +1,14 @@
 //! What the programs that compare with Rust have in common.
 
+mod anew;
+mod clock;
 pub mod measure;
 mod random;
 mod words;
 mod work;
 
+pub use anew::{is_one_run, runs};
+pub use clock::{clock, median};
 pub use random::Random;
 pub use words::words;
 pub use work::in_parts;

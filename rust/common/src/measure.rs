@@ -1,32 +1,11 @@
 //! Two sides measured in turn, by the time that this thread has run: what other programs take of the machine does not count.
 
+use crate::{clock, median};
 use std::hint::black_box;
 
 const MEASUREMENTS: usize = 21;
 /// How long a measurement takes at least, in nanoseconds, so that the reading of the clock does not count.
 const LONG: f64 = 300_000.0;
-
-/// `timespec` and the clock of a thread as Linux on 64 bits has them.
-#[repr(C)]
-struct Time {
-    seconds: i64,
-    nanoseconds: i64,
-}
-
-const CLOCK_THREAD_CPUTIME_ID: i32 = 3;
-
-extern "C" {
-    fn clock_gettime(clock: i32, time: *mut Time) -> i32;
-}
-
-/// How long this thread has run, in nanoseconds.
-fn clock() -> f64 {
-    let mut time = Time { seconds: 0, nanoseconds: 0 };
-    // SAFETY: `time` is a `timespec` that may be written.
-    let failed = unsafe { clock_gettime(CLOCK_THREAD_CPUTIME_ID, &mut time) };
-    assert_eq!(failed, 0);
-    time.seconds as f64 * 1e9 + time.nanoseconds as f64
-}
 
 /// One side: the inputs, all of them called `times` times a measurement, and the room to write to.
 struct Side<'a, T, F> {
@@ -55,11 +34,6 @@ impl<T, F: Fn(&T, &mut [u8]) -> usize> Side<'_, T, F> {
             self.times = (LONG / (self.measure() * self.inputs.len() as f64)).ceil() as usize;
         }
     }
-
-    fn median(&mut self) -> f64 {
-        self.measured.sort_by(f64::total_cmp);
-        self.measured[self.measured.len() / 2]
-    }
 }
 
 /// What one call of each side takes, in nanoseconds: medians of 21 measurements, in turn.
@@ -78,5 +52,5 @@ pub fn both<T>(
         a.measured.push(x);
         b.measured.push(y);
     }
-    (a.median(), b.median())
+    (median(&mut a.measured), median(&mut b.measured))
 }

@@ -5,11 +5,8 @@ mod rows;
 mod texts;
 
 use rows::{Rows, NAMES, SIZES};
-use std::env;
-use std::process::{exit, Command};
 
 const RUNS: usize = 3;
-const ONE_RUN: &str = "one-run";
 
 /// A row of a table: for each size the nanoseconds of a call, here and there, of each run.
 struct Row {
@@ -58,24 +55,12 @@ fn cost(row: &Row) -> String {
 }
 
 fn main() {
-    if env::args().nth(1).as_deref() == Some(ONE_RUN) {
+    if common::is_one_run() {
         return Rows::new().all();
     }
     let mut rows = Vec::new();
-    for _ in 0..RUNS {
-        let run = env::current_exe().and_then(|this| Command::new(this).arg(ONE_RUN).output());
-        match run {
-            Ok(run) if run.status.success() => {
-                for line in String::from_utf8_lossy(&run.stdout).lines() {
-                    add(&mut rows, line).expect(line);
-                }
-            }
-            Ok(run) => {
-                eprintln!("{}", String::from_utf8_lossy(&run.stderr));
-                exit(1);
-            }
-            Err(e) => panic!("{e}"),
-        }
+    for line in common::runs(RUNS) {
+        add(&mut rows, &line).expect(&line);
     }
     let mut table = "";
     for row in &rows {

@@ -1,0 +1,93 @@
+//! The texts that are measured.
+
+use common::Random;
+
+pub const LARGE: usize = 10_485_760;
+
+const ASCII: &str = "the and a of to in is on it was black umbrella with wooden handle left under seat line seven harbour counter depot found this \
+    morning brown suitcase no label grey coat size forty two keys ring red ribbon please call before five";
+const GERMAN: &str = "der die das und in zu den nicht von sie ist mit sich dem auf ein Schirm schwarz Griff aus Holz Koffer Tasche für über \
+    Straße Fundbüro Schlüssel Rückgabe gehört möglich Tür";
+const GREEK: &str = "η ομπρέλα είναι μαύρη με ξύλινη λαβή κάτω από το κάθισμα στη γραμμή επτά του λιμανιού σήμερα το πρωί παρακαλώ";
+
+/// What a body is written in.
+#[derive(Clone, Copy)]
+pub enum Script {
+    Ascii,
+    German,
+    Greek,
+}
+
+/// `n` bytes of words by chance.
+fn prose(random: &mut Random, script: Script, n: usize) -> String {
+    let words = match script {
+        Script::Ascii => ASCII,
+        Script::German => GERMAN,
+        Script::Greek => GREEK,
+    };
+    let words: Vec<&str> = words.split_whitespace().collect();
+    let mut text = String::with_capacity(n + 32);
+    while text.len() < n {
+        text.push_str(random.pick(&words));
+        text.push(' ');
+    }
+    let mut end = n;
+    while !text.is_char_boundary(end) {
+        end -= 1;
+    }
+    text.truncate(end);
+    text.push_str(&"x".repeat(n - end));
+    text
+}
+
+/// A text whose body, once it is read, has `n` bytes and a blank line every 76 of them.
+pub fn text(script: Script, line_end: &str, n: usize) -> String {
+    let mut random = Random::new(n as u64);
+    let blank = line_end.repeat(2);
+    let mut text = ["Content-type: Message/CPIM", "From: <im:east@depots.example>", "Content-type: text/plain", ""].join(&blank);
+    for from in (0..n).step_by(76) {
+        let len = (n - from).min(76);
+        if len < 76 {
+            text.push_str(&prose(&mut random, script, len));
+        } else {
+            text.push_str(&prose(&mut random, script, 72));
+            text.push_str(&blank);
+        }
+    }
+    text
+}
+
+/// A notice of 379 bytes with five headers.
+pub const NOTICE: &str = "Content-type: Message/CPIM\r\n\r\n\
+    From: East counter <im:east@depots.example>\r\n\
+    To: North counter <im:north@depots.example>\r\n\
+    DateTime: 2026-03-14T09:26:53Z\r\n\
+    Subject: Black umbrella with a wooden handle\r\n\
+    NS: depot <urn:example:depot>\r\n\r\n\
+    Content-type: text/plain; charset=utf-8\r\n\
+    Content-ID: <1234@depots.example>\r\n\r\n\
+    Found under seat 14 of the 815 from the harbour. It hangs in the hall.";
+
+/// 50 headers with ten parameters each: names, value, and parameters.
+pub struct Many {
+    pub names: Vec<String>,
+    pub value: &'static str,
+    pub params: Vec<(String, String)>,
+}
+
+pub fn many() -> Many {
+    Many {
+        names: (0..50).map(|k| format!("Header-{k:02}")).collect(),
+        value: "Black umbrella with a wooden handle",
+        params: (0..10).map(|k| (format!("param{k}"), format!("value{k}"))).collect(),
+    }
+}
+
+impl Many {
+    /// As it is read: parameters stand before the colon.
+    pub fn text(&self) -> String {
+        let params: String = self.params.iter().map(|(name, value)| format!(";{name}={value}")).collect();
+        let lines: String = self.names.iter().map(|name| format!("{name}{params}: {}\r\n", self.value)).collect();
+        format!("Content-type: Message/CPIM\r\n\r\n{lines}\r\nContent-type: text/plain\r\n\r\nHi")
+    }
+}

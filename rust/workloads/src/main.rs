@@ -1,0 +1,16 @@
+//! What reading, writing, the calls and a lookup cost beside the source, as ratios. The program starts itself three times, prints the
+//! tables and stores them in docs/BENCHMARKS.md.
+
+mod inputs;
+mod measure;
+mod tables;
+mod workloads;
+
+fn main() {
+    if common::is_one_run() {
+        return workloads::all();
+    }
+    let tables = tables::of(&common::runs(3));
+    println!("{tables}");
+    tables::store(&tables);
+}
