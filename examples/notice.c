@@ -21,16 +21,10 @@ static int refused(const char *call, uint64_t number, uint64_t carried) {
     return 1;
 }
 
-/* An entry of the head store (crates/format/specs/Layout.antt): 16 bytes of numbers, its name, its value, its parameters. */
 static void print_header(cpim_message_t m, const char *name) {
-    const uint8_t *at = head + 256;
-    for (size_t k = 0; k < m.headers; k++) {
-        size_t name_len = at[0], value_len = at[1] + 256 * at[2], params = at[4] + 256 * at[5];
-        const uint8_t *value = at + 16 + name_len;
-        if (name_len == strlen(name) && memcmp(at + 16, name, name_len) == 0)
-            printf("%s is: %.*s\n", name, (int)value_len, (const char *)value);
-        at = value + value_len + params;
-    }
+    cpim_part_t value = cpim_get_header(m, head, sizeof head, TEXT(name));
+    if (value.found)
+        printf("%s is: %.*s\n", name, (int)value.length, (const char *)head + value.start);
 }
 
 int main(void) {

@@ -76,6 +76,22 @@ typedef struct {
     size_t entry;
 } cpim_loss_t;
 
+/* A part of a lent store: whether there is one, where it begins, and its length. Absent: false, 0, 0. */
+typedef struct {
+    bool found;
+    size_t start;
+    size_t length;
+} cpim_part_t;
+
+/* A header, parameter or content header in a lent store: whether there is one, where its name begins, the length of the name, and of the value right
+ * behind it. Absent: false, 0, 0, 0. */
+typedef struct {
+    bool found;
+    size_t start;
+    size_t name;
+    size_t value;
+} cpim_pair_t;
+
 /* Reads a text. Refused: the empty record, and zeros over both stores. 1, 24, 2, 3, 25; a header line 4, 6 to 9, 12 to 16, 21, 5, 10, 20, 25; a content
  * line 17 to 19, or 6 to 11, 22, 25; then 23, 26. */
 cpim_answer_t cpim_parse(const uint8_t *text, size_t text_len, uint8_t *head, size_t head_len, uint8_t *body,
@@ -164,6 +180,48 @@ cpim_header_answer_t cpim_header_new(const uint8_t *value, size_t value_len, uin
 /* Sets a parameter of a header alone. 25 carrying 0 where record and store hold none, 24, 12 to 16, 21 (even when replacing), 25. */
 cpim_header_answer_t cpim_header_with_param(cpim_header_t h, uint8_t *store, size_t store_len, const uint8_t *name,
                                             size_t name_len, const uint8_t *value, size_t value_len);
+
+/* The lookups say where something stands in the store lent: in head, unless said otherwise. Absent too where record and stores hold nothing, and for a
+ * name that is not UTF-8. n and k count from 0, names in byte order. Each judges what is held anew; cpim_places answers for all at once. */
+
+/* The first value of a name. */
+cpim_part_t cpim_get_header(cpim_message_t m, const uint8_t *head, size_t head_len, const uint8_t *name,
+                            size_t name_len);
+
+/* The n-th value of a name. */
+cpim_part_t cpim_get_header_value(cpim_message_t m, const uint8_t *head, size_t head_len, const uint8_t *name,
+                                  size_t name_len, size_t n);
+
+/* The n-th parameter of the k-th value of a name. */
+cpim_pair_t cpim_get_param(cpim_message_t m, const uint8_t *head, size_t head_len, const uint8_t *name,
+                           size_t name_len, size_t k, size_t n);
+
+cpim_part_t cpim_content_type(cpim_message_t m, const uint8_t *head, size_t head_len);
+
+/* In body. */
+cpim_part_t cpim_body(cpim_message_t m, const uint8_t *head, size_t head_len, const uint8_t *body, size_t body_len);
+
+/* Whether the body is UTF-8; false where nothing is held. */
+bool cpim_body_as_str(cpim_message_t m, const uint8_t *head, size_t head_len, const uint8_t *body, size_t body_len);
+
+/* The n-th content header. */
+cpim_pair_t cpim_content_header(cpim_message_t m, const uint8_t *head, size_t head_len, size_t n);
+
+/* The value of a header alone, in store. */
+cpim_part_t cpim_header_value(cpim_header_t h, const uint8_t *store, size_t store_len);
+
+/* The n-th parameter of a header alone, in store. */
+cpim_pair_t cpim_header_param(cpim_header_t h, const uint8_t *store, size_t store_len, size_t n);
+
+/* How many headers, parameters of all headers, and content headers; 0 where nothing is held. */
+size_t cpim_count_headers(cpim_message_t m, const uint8_t *head, size_t head_len);
+size_t cpim_count_params(cpim_message_t m, const uint8_t *head, size_t head_len);
+size_t cpim_count_contents(cpim_message_t m, const uint8_t *head, size_t head_len);
+
+/* Where all of them stand: a row of four numbers for each header, behind it those of its parameters, then for each content header. A row is where the
+ * name begins, the name's length, the length of the value right behind it, and how many parameters. out_len counts numbers, and so does what 26 carries;
+ * 2,280 are always enough. 25 carrying 0, 26. */
+cpim_numbers_t cpim_places(cpim_message_t m, const uint8_t *head, size_t head_len, size_t *out, size_t out_len);
 
 #ifdef __cplusplus
 }

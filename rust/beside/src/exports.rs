@@ -23,15 +23,35 @@ pub const BY_CALLS: &[&str] = &[
 ];
 /// What `calls` compares behind each call or each list of calls.
 pub const BY_LISTS: &[&str] = &["comes_back", "loss", "run"];
+/// What `calls` looks up behind each call, and on damaged stores.
+pub const BY_LOOKUPS: &[&str] = &[
+    "get_header",
+    "get_header_value",
+    "get_param",
+    "content_type",
+    "body",
+    "body_as_str",
+    "content_header",
+    "header_value",
+    "header_param",
+    "count_headers",
+    "count_params",
+    "count_contents",
+    "places",
+];
 pub const BY_TEXTS: &[&str] = &["parse", "read_body", "to_string"];
 
-const SOURCE: &str = include_str!(concat!(env!("CARGO_MANIFEST_DIR"), "/../../crates/cpim/src/lib.rt"));
+const SOURCES: [&str; 2] = [
+    include_str!(concat!(env!("CARGO_MANIFEST_DIR"), "/../../crates/cpim/src/lib.rt")),
+    include_str!(concat!(env!("CARGO_MANIFEST_DIR"), "/../../crates/cpim/src/lookups.rt")),
+];
 
 /// Ends the program with a failure where one of its own functions was not called, or a function stands in no list.
 pub fn all_compared(own: &[&str], calls: impl Fn(usize) -> u64) {
     let idle = (0..own.len()).find(|k| calls(*k) == 0).map(|k| own[k]);
-    let lists = [BY_CALLS, BY_LISTS, BY_TEXTS];
-    let forgotten = common::exports(SOURCE, "cpim_").find(|name| !lists.iter().any(|list| list.contains(name)));
+    let lists = [BY_CALLS, BY_LISTS, BY_LOOKUPS, BY_TEXTS];
+    let mut exports = SOURCES.iter().flat_map(|source| common::exports(source, "cpim_"));
+    let forgotten = exports.find(|name| !lists.iter().any(|list| list.contains(name)));
     if let Some(name) = idle.or(forgotten) {
         eprintln!("cpim_{name} is not compared");
         exit(1);

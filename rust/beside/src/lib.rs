@@ -1,5 +1,5 @@
 //! What the programs share that run the calls, reading and writing beside the source: calls and what the source makes of them, the layout of a
-//! message, the table of refusals, what comes back, lent stores, names and values, texts.
+//! message and where its entries stand, the table of refusals, what comes back, lent stores, names and values, texts.
 
 pub mod call;
 pub mod damage;
@@ -9,5 +9,6 @@ pub mod layout;
 pub mod names;
 pub mod random_calls;
 pub mod refusals;
+pub mod spots;
 pub mod store;
 pub mod whole;

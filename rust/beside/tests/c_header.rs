@@ -27,8 +27,10 @@ fn c_type(t: &str) -> &str {
         "Numbers" => "cpim_numbers_t",
         "Answer" => "cpim_answer_t",
         "HeaderAnswer" => "cpim_header_answer_t",
-        "BodyAnswer" => "cpim_length_answer_t",
+        "LengthAnswer" => "cpim_length_answer_t",
         "Loss" => "cpim_loss_t",
+        "Part" => "cpim_part_t",
+        "Pair" => "cpim_pair_t",
         _ => panic!("how is a `{t}` written in C?"),
     }
 }
@@ -64,8 +66,8 @@ fn declarations(source: &str) -> Vec<String> {
 #[test]
 fn functions() {
     let header = plain(&without_comments(&file("cpim/cpim.h")));
-    let expected = declarations(&file("cpim/src/lib.rt"));
-    assert!(expected.len() > 20, "the exports are not found");
+    let expected = ["cpim/src/lib.rt", "cpim/src/lookups.rt"].map(|path| declarations(&file(path))).concat();
+    assert!(expected.len() > 30, "the exports are not found");
     for declaration in &expected {
         assert!(header.contains(declaration), "crates/cpim/cpim.h lacks\n{declaration}");
     }
@@ -75,7 +77,7 @@ fn functions() {
 #[test]
 fn records() {
     let header = plain(&without_comments(&file("cpim/cpim.h")));
-    let sources = ["format/src/lib.rt", "text_parts/src/lib.rt", "whole/src/lib.rt"].map(file);
+    let sources = ["format/src/lib.rt", "text_parts/src/lib.rt", "whole/src/lib.rt", "spots/src/lib.rt"].map(file);
     let mut records = 0;
     for source in &sources {
         for record in source.split("#[repr(C)]\npub struct ").skip(1) {

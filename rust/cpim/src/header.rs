@@ -1,7 +1,7 @@
 //! A header with its parameters.
 
 use crate::error::{CpimError, Refusal};
-use crate::places::{header_places, rows_of, Entries, Entry};
+use crate::places::Entry;
 use crate::raw::{self, text, Answer, HeaderRecord};
 use crate::text::SmolStr;
 use std::collections::BTreeMap;
@@ -45,17 +45,14 @@ impl CpimHeader {
 
     /// Returns the header value.
     pub fn value(&self) -> &str {
-        text(&self.store[16..][..self.record.valuelen])
+        text(raw::header_value(self.record, &self.store).of(&self.store).expect("a header"))
     }
 
     /// Returns the header parameters.
     pub fn params(&self) -> &BTreeMap<SmolStr, SmolStr> {
         self.params.get_or_init(|| {
-            if self.record.params == 0 {
-                return BTreeMap::new();
-            }
-            let rows = rows_of(self.record.params, |out| header_places(self.record, &self.store, out));
-            pairs(Entries::alone(self.record, &self.store, &rows))
+            let nth = |n| raw::header_param(self.record, &self.store, n).of(&self.store);
+            pairs((0..self.record.params).filter_map(nth).map(|(name, value)| (text(name), text(value))))
         })
     }
 
@@ -67,11 +64,15 @@ impl CpimHeader {
         &self.store
     }
 
-    /// A header of a message by itself: 16 zeros, the value, the parameters as they stand there (crates/format/specs/Layout.antt).
+    /// A header of a message by itself, built by the calls that build any; each part of it has passed them before.
     pub(crate) fn of(entry: Entry<'_>) -> Self {
-        let (value, tail) = (entry.value_bytes(), entry.tail());
-        let store = [&[0; 16], value, tail].concat();
-        let record = HeaderRecord { valuelen: value.len(), params: entry.params().count(), size: store.len() };
+        let params = || entry.params().map(|p| (p.name().as_bytes(), p.value().as_bytes()));
+        let value = entry.value().as_bytes();
+        let mut store = vec![0; 16 + value.len() + params().map(|(n, v)| 16 + n.len() + v.len()).sum::<usize>()];
+        let mut record = raw::header_new(value, &mut store).accepted().expect("the value of a header");
+        for (name, value) in params() {
+            record = raw::header_with_param(record, &mut store, name, value).accepted().expect("a parameter");
+        }
         CpimHeader { record, store, params: OnceLock::new() }
     }
 
@@ -80,9 +81,9 @@ impl CpimHeader {
     }
 }
 
-/// The map of entries that stand in its order.
-pub(crate) fn pairs(entries: Entries<'_>) -> BTreeMap<SmolStr, SmolStr> {
-    entries.map(|e| (SmolStr::new(e.name()), SmolStr::new(e.value()))).collect()
+/// The map of names and values.
+pub(crate) fn pairs<'a>(entries: impl Iterator<Item = (&'a str, &'a str)>) -> BTreeMap<SmolStr, SmolStr> {
+    entries.map(|(name, value)| (SmolStr::new(name), SmolStr::new(value))).collect()
 }
 
 /// The bytes are a function of value and parameters.

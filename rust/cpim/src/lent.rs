@@ -20,13 +20,12 @@
 //! # Ok::<(), cpim::Refusal>(())
 //! ```
 
-pub use crate::places::{Entries, Entry, Places, MOST, MOST_ALONE};
+pub use crate::places::{Entries, Entry, Places, MOST};
 pub use crate::raw::{HeaderRecord, Record};
 
 use crate::error::Refusal;
 use crate::loss::Loss;
-use crate::places::header_places;
-use crate::raw::{self, text};
+use crate::raw::{self, text, Pair};
 
 /// A message in lent stores.
 pub struct Message<'a> {
@@ -117,11 +116,16 @@ impl<'a> Message<'a> {
     }
 
     pub fn content_type(&self) -> &str {
-        text(&self.head[..self.record.typelen])
+        text(raw::content_type(self.record, self.head).of(self.head).expect("the type of what is held"))
     }
 
     pub fn body(&self) -> &[u8] {
-        &self.body[..self.record.bodylen]
+        raw::body(self.record, self.head, self.body).of(self.body).expect("the body of what is held")
+    }
+
+    /// The body as a text, if it is one.
+    pub fn body_as_str(&self) -> Option<&str> {
+        raw::body_as_str(self.record, self.head, self.body).then(|| text(self.body()))
     }
 
     /// Where its headers and content headers stand; `rows` of [`MOST`] numbers are always enough. 26 carries how many are.
@@ -129,17 +133,30 @@ impl<'a> Message<'a> {
         Places::find(self.record, self.head, rows)
     }
 
-    /// The first value of a name. For more than one lookup see [`places`](Self::places).
+    /// The first value of a name. Each lookup judges what is held anew: for more than a few see [`places`](Self::places).
     pub fn get_header(&self, name: &str) -> Option<&str> {
-        self.nth_header(name, 0)
+        raw::get_header(self.record, self.head, name.as_bytes()).of(self.head).map(text)
     }
 
     /// The n-th value of a name, counting from 0.
     pub fn nth_header(&self, name: &str, n: usize) -> Option<&str> {
-        let mut rows = [0; MOST];
-        let place = self.places(&mut rows).ok()?.named(name).nth(n)?.value_at();
-        Some(text(&self.head[place]))
+        raw::get_header_value(self.record, self.head, name.as_bytes(), n).of(self.head).map(text)
     }
+
+    /// Name and value of the n-th parameter of the k-th value of a name.
+    pub fn nth_param(&self, name: &str, k: usize, n: usize) -> Option<(&str, &str)> {
+        texts(raw::get_param(self.record, self.head, name.as_bytes(), k, n), self.head)
+    }
+
+    /// Name and value of the n-th content header.
+    pub fn nth_content_header(&self, n: usize) -> Option<(&str, &str)> {
+        texts(raw::content_header(self.record, self.head, n), self.head)
+    }
+}
+
+/// Name and value of an entry that was found.
+fn texts(pair: Pair, store: &[u8]) -> Option<(&str, &str)> {
+    pair.of(store).map(|(name, value)| (text(name), text(value)))
 }
 
 /// A header alone in a lent store, which takes 16 bytes and its value, and 16 and name and value for each parameter.
@@ -160,13 +177,12 @@ impl<'a> Header<'a> {
     }
 
     pub fn value(&self) -> &str {
-        text(&self.store[16..][..self.record.valuelen])
+        text(raw::header_value(self.record, self.store).of(self.store).expect("a header"))
     }
 
-    /// Where its parameters stand; `rows` of [`MOST_ALONE`] numbers are always enough. 26 carries how many are.
-    pub fn params<'b>(&'b self, rows: &'b mut [usize]) -> Result<Entries<'b>, Refusal> {
-        header_places(self.record, self.store, rows).accepted()?;
-        Ok(Entries::alone(self.record, self.store, rows))
+    /// Names and values of its parameters in map order.
+    pub fn params(&self) -> impl Iterator<Item = (&str, &str)> {
+        (0..self.record.params).filter_map(|n| texts(raw::header_param(self.record, self.store, n), self.store))
     }
 }
 

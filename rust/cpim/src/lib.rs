@@ -1,8 +1,9 @@
 //! CPIM messages (RFC 3862), read and written by a proved library, with the API of `sip_core::cpim`: a program that says
 //! `use sip_core::cpim::...` says `use cpim::...` instead.
 //!
-//! Every answer comes from the functions of crates/cpim, which are proved to give what `sip_core::cpim` gives, for every text and every list of
-//! calls. Added is what that module cannot say: whether a message comes back from its text.
+//! Every answer comes from the functions of crates/cpim. They are proved to give what the definitions of crates/format say, for every text and every
+//! list of calls; that the definitions say what `sip_core::cpim` does is tested, by running that module beside the functions (`make compare`).
+//! Added is what that module cannot say: whether a message comes back from its text.
 //!
 //! ```
 //! use cpim::{CpimHeader, CpimMessage};

@@ -3,8 +3,8 @@
 use crate::error::{CpimError, Refusal};
 use crate::header::{pairs, CpimHeader};
 use crate::loss::Loss;
-use crate::places::{places, rows_of, Places};
-use crate::raw::{self, text, Answer, Record};
+use crate::places::{rows_of, Places};
+use crate::raw::{self, text, Answer, Part, Record};
 use crate::text::SmolStr;
 use std::collections::BTreeMap;
 use std::fmt;
@@ -32,6 +32,7 @@ pub struct CpimMessage {
 #[derive(Default)]
 struct Views {
     rows: OnceLock<Vec<usize>>,
+    content_type: OnceLock<Part>,
     headers: OnceLock<BTreeMap<SmolStr, Vec<CpimHeader>>>,
     contents: OnceLock<BTreeMap<SmolStr, SmolStr>>,
 }
@@ -63,12 +64,13 @@ impl CpimMessage {
 
     /// Returns the message content type.
     pub fn content_type(&self) -> &str {
-        text(&self.head[..self.record.typelen])
+        let place = self.views.content_type.get_or_init(|| raw::content_type(self.record, &self.head));
+        text(place.of(&self.head).expect("the type of what is held"))
     }
 
     /// Returns content headers.
     pub fn content_headers(&self) -> &BTreeMap<SmolStr, SmolStr> {
-        self.views.contents.get_or_init(|| pairs(self.places().content_headers()))
+        self.views.contents.get_or_init(|| pairs(self.places().content_headers().map(|e| (e.name(), e.value()))))
     }
 
     /// Returns the message body bytes.
@@ -214,9 +216,8 @@ impl CpimMessage {
     }
 
     fn places(&self) -> Places<'_> {
-        let Record { headers, contents, .. } = self.record;
-        let rows = || rows_of(headers + contents, |out| places(self.record, &self.head, out));
-        Places::known(self.record, &self.head, self.views.rows.get_or_init(rows))
+        let rows = self.views.rows.get_or_init(|| rows_of(self.record, &self.head));
+        Places::known(self.record, &self.head, rows)
     }
 
     /// A changing call; the head store grows as far as the call asks for, at least to the double.

@@ -3,6 +3,10 @@
 
 #![allow(unsafe_code)]
 
+mod lookups;
+
+pub use lookups::*;
+
 /// A message in its stores: the length of its type; how many headers and the bytes that they take in the head store; the same of
 /// its content headers; the length of its body. The empty record (all 0) holds nothing.
 #[repr(C)]

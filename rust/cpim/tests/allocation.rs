@@ -1,6 +1,6 @@
 //! `cpim::lent` allocates nothing: every call is counted.
 
-use cpim::lent::{body_of, Header, Message, MOST, MOST_ALONE};
+use cpim::lent::{body_of, Header, Message, MOST};
 use cpim::Refusal;
 use std::alloc::{GlobalAlloc, Layout, System};
 use std::cell::Cell;
@@ -33,7 +33,7 @@ fn everything() -> Result<usize, Refusal> {
     let (mut head, mut body, mut store, mut out) = ([0; 2_000], [0; 100], [0; 200], [0; 2_000]);
     let mut h = Header::new(b"Umbrella", &mut store)?;
     h.with_param(b"depot", b"north")?;
-    let mut seen = h.value().len() + h.params(&mut [0; MOST_ALONE])?.map(|p| p.value().len()).sum::<usize>();
+    let mut seen = h.value().len() + h.params().map(|(_, value)| value.len()).sum::<usize>();
 
     let mut m = Message::parse(TEXT, &mut head, &mut body)?;
     m.set_header(b"To", b"a")?;
@@ -52,7 +52,11 @@ fn everything() -> Result<usize, Refusal> {
         + places.content_headers().count()
         + places.first("NS").map_or(0, |e| e.value().len());
     seen += m.get_header("From").map_or(0, str::len) + m.content_type().len() + m.body().len() + m.write(&mut out)?;
-    Ok(seen + body_of(TEXT, &mut [0; 100])?.len())
+    seen += [m.nth_header("To", 1), m.nth_param("From", 0, 0).map(|p| p.1), m.nth_content_header(0).map(|p| p.1)]
+        .map(|found| found.map_or(0, str::len))
+        .iter()
+        .sum::<usize>();
+    Ok(seen + usize::from(m.body_as_str().is_some()) + body_of(TEXT, &mut [0; 100])?.len())
 }
 
 #[test]

@@ -105,9 +105,7 @@ fn lent_stores() {
     h.with_param(b"depot", b"north").unwrap();
     h.with_param(b"line", b"4").unwrap();
     assert_eq!(h.value(), "Black umbrella");
-    let mut rows = [0; lent::MOST_ALONE];
-    let params: Vec<_> = h.params(&mut rows).unwrap().map(|p| (p.name(), p.value())).collect();
-    assert_eq!(params, [("depot", "north"), ("line", "4")]);
+    assert_eq!(h.params().collect::<Vec<_>>(), [("depot", "north"), ("line", "4")]);
 
     let mut m = Message::new(b"text/plain", b"Hi", &mut head, &mut body).unwrap();
     m.with_from(b"a").unwrap();
@@ -116,13 +114,15 @@ fn lent_stores() {
     m.add_content_header(b"Content-ID", b"7").unwrap();
     assert_eq!((m.get_header("Subject"), m.nth_header("Subject", 1)), (Some("Black umbrella"), Some("b")));
     assert_eq!((m.nth_header("Subject", 2), m.get_header("To")), (None, None));
+    assert_eq!((m.nth_param("Subject", 0, 1), m.nth_param("Subject", 1, 0)), (Some(("line", "4")), None));
+    assert_eq!((m.nth_content_header(0), m.nth_content_header(1)), (Some(("Content-ID", "7")), None));
     let mut rows = [0; lent::MOST];
     let places = m.places(&mut rows).unwrap();
     assert_eq!(places.headers().map(|e| e.params().count()).collect::<Vec<_>>(), [0, 2, 0]);
     assert_eq!(places.content_headers().map(|e| (e.name(), e.value())).collect::<Vec<_>>(), [("Content-ID", "7")]);
     assert_eq!(m.places(&mut []).err(), Some(Refusal { number: 26, carried: 24 }));
     assert_eq!(m.loss(), Some(Loss::Parameter { header: 1, name: "Subject" }));
-    assert_eq!((m.content_type(), m.body()), ("text/plain", &b"Hi"[..]));
+    assert_eq!((m.content_type(), m.body(), m.body_as_str()), ("text/plain", &b"Hi"[..], Some("Hi")));
 
     let record = m.record();
     assert_eq!(Message::held(record, &mut head, &mut body).map(|m| m.record()), Ok(record));

@@ -8,7 +8,8 @@ const ASCII: &str = "the and a of to in is on it was black umbrella with wooden 
     morning brown suitcase no label grey coat size forty two keys ring red ribbon please call before five";
 const GERMAN: &str = "der die das und in zu den nicht von sie ist mit sich dem auf ein Schirm schwarz Griff aus Holz Koffer Tasche für über \
     Straße Fundbüro Schlüssel Rückgabe gehört möglich Tür";
-const GREEK: &str = "η ομπρέλα είναι μαύρη με ξύλινη λαβή κάτω από το κάθισμα στη γραμμή επτά του λιμανιού σήμερα το πρωί παρακαλώ";
+const GREEK: &str =
+    "η ομπρέλα είναι μαύρη με ξύλινη λαβή κάτω από το κάθισμα στη γραμμή επτά του λιμανιού σήμερα το πρωί παρακαλώ";
 
 /// What a body is written in.
 #[derive(Clone, Copy)]
@@ -44,7 +45,8 @@ fn prose(random: &mut Random, script: Script, n: usize) -> String {
 pub fn text(script: Script, line_end: &str, n: usize) -> String {
     let mut random = Random::new(n as u64);
     let blank = line_end.repeat(2);
-    let mut text = ["Content-type: Message/CPIM", "From: <im:east@depots.example>", "Content-type: text/plain", ""].join(&blank);
+    let mut text =
+        ["Content-type: Message/CPIM", "From: <im:east@depots.example>", "Content-type: text/plain", ""].join(&blank);
     for from in (0..n).step_by(76) {
         let len = (n - from).min(76);
         if len < 76 {

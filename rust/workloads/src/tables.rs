@@ -59,7 +59,9 @@ pub fn of(lines: &[String]) -> String {
         add(&mut rows, line).expect(line);
     }
     let (goals, sizes): (Vec<&Row>, Vec<&Row>) = rows.iter().partition(|row| row.goal.is_finite());
-    let mut out = String::from("| workload | goal | lent stores | gateway's crate | lent stores, crate, source |\n|---|---|---|---|---|\n");
+    let mut out = String::from(
+        "| workload | goal | lent stores | gateway's crate | lent stores, crate, source |\n|---|---|---|---|---|\n",
+    );
     for row in goals {
         let times = [0, 1, 2].map(|side| row.time(side)).join(", ");
         writeln!(out, "| {} | {} | {} | {} | {times} |", row.what, row.goal, row.ratio(0), row.ratio(1)).unwrap();

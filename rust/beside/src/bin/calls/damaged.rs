@@ -6,6 +6,7 @@ use beside::call::{Call, Lengths};
 use beside::layout::{held, held_alone, need, need_alone};
 use common::Random;
 use cpim::raw::{HeaderRecord, Record};
+use source::cpim::CpimMessage;
 
 /// The work in parts of about the same size; each part takes every so manieth alteration.
 pub const PARTS: usize = 32;
@@ -64,7 +65,7 @@ impl Sample {
     fn build(stores: &mut Stores, calls: &[Call]) -> Self {
         stores.refill(3);
         stores.begin();
-        let all = Lengths { head: stores.head.room(), body: stores.body.room(), header: stores.header_store.room() };
+        let all = stores.room();
         for call in calls {
             if call.on_header() {
                 let after = stores.header_after(call);
@@ -93,7 +94,8 @@ impl Sample {
         Altered { record: self.record, header: self.header, head: Vec::new(), store: Vec::new(), lengths }
     }
 
-    fn run(&self, stores: &mut Stores, altered: &Altered, call: &Call) {
+    /// What is altered, in the stores.
+    fn lay(&self, stores: &mut Stores, altered: &Altered) {
         stores.begin();
         stores.note = format!("{altered:?}");
         stores.head.put(0, &self.head);
@@ -105,12 +107,28 @@ impl Sample {
         for (at, b) in &altered.store {
             stores.header_store.put(*at, &[*b]);
         }
-        let lengths = altered.lengths;
         stores.record = altered.record;
         stores.header_record = altered.header;
-        let body = call.takes_body().then(|| stores.body.bytes(lengths.body));
-        stores.message = held(altered.record, stores.head.bytes(lengths.head), body);
-        stores.header = held_alone(altered.header, stores.header_store.bytes(lengths.header));
+        stores.header = held_alone(altered.header, stores.header_store.bytes(altered.lengths.header));
+    }
+
+    /// The message held by the head store alone, or by both stores.
+    fn held(stores: &Stores, lengths: Lengths, both: bool) -> Option<CpimMessage> {
+        let body = both.then(|| stores.body.bytes(lengths.body));
+        held(stores.record, stores.head.bytes(lengths.head), body)
+    }
+
+    fn look_up(&self, stores: &mut Stores, altered: &Altered) {
+        self.lay(stores, altered);
+        stores.message = Self::held(stores, altered.lengths, false);
+        let whole = Self::held(stores, altered.lengths, true);
+        stores.look_up(&[b"From", b"Subject", b"A", "é".as_bytes(), b"b"], altered.lengths, whole.as_ref());
+    }
+
+    fn run(&self, stores: &mut Stores, altered: &Altered, call: &Call) {
+        self.lay(stores, altered);
+        let lengths = altered.lengths;
+        stores.message = Self::held(stores, lengths, call.takes_body());
         if call.on_header() {
             let after = stores.header_after(call);
             stores.run_header(call, after, lengths);
@@ -224,9 +242,11 @@ pub fn part(stores: &mut Stores, part: usize) {
         let mut random = Random::new(11);
         let s = Sample::build(stores, &calls);
         for altered in message_altered(&s, &mut random).iter().skip(part).step_by(PARTS) {
+            s.look_up(stores, altered);
             battery().iter().for_each(|call| s.run(stores, altered, call));
         }
         for altered in header_altered(&s, &mut random).iter().skip(part).step_by(PARTS) {
+            s.look_up(stores, altered);
             header_battery().iter().for_each(|call| s.run(stores, altered, call));
         }
         stores.note.clear();

@@ -34,7 +34,7 @@ fn around(random: &mut Random, old: usize, new: usize, all: usize) -> usize {
 }
 
 fn lengths(random: &mut Random, room: Room, stores: &Stores, new: Lengths) -> Lengths {
-    let all = Lengths { head: stores.head.room(), body: stores.body.room(), header: stores.header_store.room() };
+    let all = stores.room();
     match room {
         Room::All => all,
         Room::Fixed(lengths) => lengths,
@@ -66,6 +66,28 @@ pub fn step(random: &mut Random, stores: &mut Stores, call: &Call, room: Room) {
     if !call.on_header() {
         stores.check_whole();
     }
+    look_up(stores, &call.first);
+}
+
+/// In turn: the name that was called with; one of those that are held, another each time, and the same without its first byte.
+fn look_up(stores: &mut Stores, called: &[u8]) {
+    let held = stores.message.clone();
+    let names: Vec<&[u8]> = held.iter().flat_map(|m| m.headers().keys()).map(|name| name.as_bytes()).collect();
+    let turn = stores.list.len();
+    let asked: &[&[u8]] = match names.get(turn / 2 % names.len().max(1)) {
+        Some(name) if turn % 2 == 0 => &[name, &name[1..]],
+        _ => &[called],
+    };
+    stores.look_up(asked, stores.room(), held.as_ref());
+}
+
+/// Every name that is held, and some that never are.
+fn look_up_all(stores: &mut Stores) {
+    let held = stores.message.clone();
+    let names = held.iter().flat_map(|m| m.headers().keys()).map(|name| name.as_bytes());
+    let absent: [&[u8]; 5] = [b"", b"nobody", b"From:", b"\xFF", &[b'n'; 129]];
+    let names: Vec<&[u8]> = names.chain(absent).collect();
+    stores.look_up(&names, stores.room(), held.as_ref());
 }
 
 /// Calls of one function with names of their own, until so many stand there.
@@ -139,6 +161,7 @@ pub fn part(stores: &mut Stores, part: usize, lists: usize) {
     for k in 0..lists {
         let mut random = Random::new((part * lists + k) as u64);
         list(&mut random, stores);
+        look_up_all(stores);
         stores.finish();
     }
 }

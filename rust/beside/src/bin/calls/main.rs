@@ -1,14 +1,15 @@
 //! Lists of calls on a message and a header in lent stores beside the source. Prints how many calls were accepted and how often
-//! each refusal came; the first difference ends it with a failure and the list of calls.
+//! each refusal came, and how much was looked up; the first difference ends it with a failure and the list of calls.
 
 mod damaged;
 mod largest;
 mod lists;
+mod lookups;
 mod samples;
 mod scripts;
 mod stores;
 
-use beside::exports::{all_compared, BY_CALLS, BY_LISTS};
+use beside::exports::{all_compared, BY_CALLS, BY_LISTS, BY_LOOKUPS};
 use common::{grouped, in_parts};
 use std::process::exit;
 use stores::{Stores, Tally};
@@ -23,6 +24,7 @@ fn add(sum: &mut Tally, t: &Tally) {
     sum.losses.iter_mut().zip(t.losses).for_each(|(a, b)| *a += b);
     sum.nothing_held += t.nothing_held;
     sum.scripts += t.scripts;
+    sum.looked.add(&t.looked);
 }
 
 /// What a thread lends, and what it counted: in lists, and on what was damaged.
@@ -73,6 +75,9 @@ fn main() {
     let [whole, lost @ .., nothing] = lists.losses.map(grouped);
     println!("Come back whole: {whole}; lost first, by clause 1 to 8: {}; nothing held: {nothing}.", lost.join(", "));
     println!("Scripts: {}.", grouped(lists.scripts));
+    for (name, looked) in [("behind calls", &lists.looked), ("on damaged stores and records", &damaged.looked)] {
+        println!("Lookups {name}: {}, {} places found.", grouped(looked.all()), grouped(looked.found));
+    }
     if lists.losses.contains(&0) {
         eprintln!("a clause never failed first: {:?}", lists.losses);
         exit(1);
@@ -80,6 +85,7 @@ fn main() {
     all_compared(BY_CALLS, |k| lists.functions[k]);
     let asked = lists.losses.iter().sum();
     all_compared(BY_LISTS, |k| [asked, asked, lists.scripts][k]);
+    all_compared(BY_LOOKUPS, |k| lists.looked.answers[k].min(damaged.looked.answers[k]));
     let calls: u64 = all.functions.iter().sum();
-    println!("The calls beside Rust: {} calls, no difference", grouped(calls));
+    println!("The calls beside Rust: {} calls, {} lookups, no difference", grouped(calls), grouped(all.looked.all()));
 }

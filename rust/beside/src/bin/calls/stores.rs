@@ -1,5 +1,6 @@
 //! Stores lent to both sides: what the call leaves here is held against what it must leave, byte by byte.
 
+use crate::lookups::{Lent, LentAlone, Looked};
 use beside::call::{Call, Function::*, Lengths};
 use beside::exports::BY_CALLS;
 use beside::layout::{decode, layout, layout_alone, need, need_alone, record, record_alone};
@@ -13,7 +14,7 @@ use std::fmt::Debug;
 use std::process::exit;
 
 /// How often each answer was given: accepted (0), each number, 25 carrying 0 apart; how often each function was called;
-/// by clause what was lost first (9 where nothing is held); and how many scripts were run.
+/// by clause what was lost first (9 where nothing is held); how many scripts were run; and what was looked up.
 #[derive(Clone, Default)]
 pub struct Tally {
     pub answers: [u64; 27],
@@ -21,6 +22,7 @@ pub struct Tally {
     pub functions: [u64; BY_CALLS.len()],
     pub losses: [u64; 10],
     pub scripts: u64,
+    pub looked: Looked,
 }
 
 pub struct Stores {
@@ -68,6 +70,11 @@ impl Stores {
         self.message = None;
         self.header = None;
         self.list.clear();
+    }
+
+    /// All the room that there is.
+    pub fn room(&self) -> Lengths {
+        Lengths { head: self.head.room(), body: self.body.room(), header: self.header_store.room() }
     }
 
     #[cold]
@@ -183,6 +190,26 @@ impl Stores {
             self.differ("what comes back", &got, &want);
         }
         self.tally.losses[want.1.clause] += 1;
+    }
+
+    /// The lookups of some names, and of all else, in what is held by stores of these lengths; `whole` where the body store is judged too.
+    pub fn look_up(&mut self, names: &[&[u8]], lengths: Lengths, whole: Option<&CpimMessage>) {
+        let lent = Lent {
+            record: self.record,
+            head: self.head.bytes(lengths.head),
+            body: self.body.bytes(lengths.body),
+            message: self.message.as_ref(),
+            whole,
+        };
+        let alone = LentAlone {
+            record: self.header_record,
+            store: self.header_store.bytes(lengths.header),
+            header: self.header.as_ref(),
+        };
+        let looked = &mut self.tally.looked;
+        if let Err(difference) = looked.message(&lent, names).and_then(|()| looked.alone(&alone)) {
+            self.differ("a lookup", &difference, &"see there");
+        }
     }
 
     pub fn same<T: PartialEq + Debug>(&self, what: &str, here: &T, there: &T) {
