@@ -1,6 +1,7 @@
 //! What reading, writing, the calls and a lookup cost beside the source, as ratios. The program starts itself three times, prints the
 //! tables and stores them in docs/BENCHMARKS.md.
 
+mod gateway;
 mod inputs;
 mod measure;
 mod tables;
@@ -8,7 +9,8 @@ mod workloads;
 
 fn main() {
     if common::is_one_run() {
-        return workloads::all();
+        workloads::all();
+        return gateway::all();
     }
     let tables = tables::of(&common::runs(3));
     println!("{tables}");

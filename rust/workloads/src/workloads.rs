@@ -1,8 +1,9 @@
-//! The workloads. Each prints a line: what it is, its goal, and what one call takes in nanoseconds by the lent stores, by the gateway's
-//! crate and by the source.
+//! The workloads. Each prints a line: its table, what it is, its goal, and what one call takes in nanoseconds by the lent stores, by the
+//! gateway's crate and by the source.
 
 use crate::inputs::{many, text, Many, Script, LARGE, NOTICE};
 use crate::measure::{in_turn, side, Side};
+use crate::tables;
 use cpim::raw::{self, Record};
 use source::cpim as source;
 
@@ -12,7 +13,8 @@ const SIZES: [usize; 5] = [1_024, 10_240, 102_400, 1_048_576, LARGE];
 
 fn row(what: &str, goal: f64, sides: [Side<'_>; 3]) {
     let [lent, crated, there] = in_turn(sides);
-    println!("{what}\t{goal}\t{lent}\t{crated}\t{there}");
+    let table = if goal.is_finite() { tables::GOALS } else { tables::SIZES };
+    println!("{table}\t{what}\t{goal}\t{lent}\t{crated}\t{there}");
 }
 
 /// Lent stores, and what they hold.
@@ -80,8 +82,8 @@ fn writing(what: &str, goal: f64, text: &str) {
         goal,
         [
             side(lent, |lent| lent.out.fill(0), Lent::write),
-            side(crated, |_| {}, |m| m.to_string().expect(what)),
-            side(there, |_| {}, |m| m.to_string().expect(what)),
+            side(crated, |_| {}, |m| cpim::CpimMessage::to_string(m).expect(what)),
+            side(there, |_| {}, |m| source::CpimMessage::to_string(m).expect(what)),
         ],
     );
 }

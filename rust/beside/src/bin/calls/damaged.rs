@@ -122,7 +122,9 @@ impl Sample {
         self.lay(stores, altered);
         stores.message = Self::held(stores, altered.lengths, false);
         let whole = Self::held(stores, altered.lengths, true);
-        stores.look_up(&[b"From", b"Subject", b"A", "é".as_bytes(), b"b"], altered.lengths, whole.as_ref());
+        for names in [&[b"From", &b"Subject"[..], b"A", "é".as_bytes(), b"b"][..], &[]] {
+            stores.look_up(names, altered.lengths, whole.as_ref());
+        }
     }
 
     fn run(&self, stores: &mut Stores, altered: &Altered, call: &Call) {

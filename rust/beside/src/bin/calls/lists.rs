@@ -69,25 +69,27 @@ pub fn step(random: &mut Random, stores: &mut Stores, call: &Call, room: Room) {
     look_up(stores, &call.first);
 }
 
-/// In turn: the name that was called with; one of those that are held, another each time, and the same without its first byte.
+/// In turn: the name that was called with; one of those that are held, another each time, and the same without its first byte; all else.
 fn look_up(stores: &mut Stores, called: &[u8]) {
     let held = stores.message.clone();
     let names: Vec<&[u8]> = held.iter().flat_map(|m| m.headers().keys()).map(|name| name.as_bytes()).collect();
     let turn = stores.list.len();
-    let asked: &[&[u8]] = match names.get(turn / 2 % names.len().max(1)) {
-        Some(name) if turn % 2 == 0 => &[name, &name[1..]],
-        _ => &[called],
+    let asked: &[&[u8]] = match (turn % 3, names.get(turn / 3 % names.len().max(1))) {
+        (0, _) => &[called],
+        (1, Some(name)) => &[name, &name[1..]],
+        _ => &[],
     };
     stores.look_up(asked, stores.room(), held.as_ref());
 }
 
-/// Every name that is held, and some that never are.
+/// Every name that is held, some that never are, and all else.
 fn look_up_all(stores: &mut Stores) {
     let held = stores.message.clone();
     let names = held.iter().flat_map(|m| m.headers().keys()).map(|name| name.as_bytes());
     let absent: [&[u8]; 5] = [b"", b"nobody", b"From:", b"\xFF", &[b'n'; 129]];
     let names: Vec<&[u8]> = names.chain(absent).collect();
     stores.look_up(&names, stores.room(), held.as_ref());
+    stores.look_up(&[], stores.room(), held.as_ref());
 }
 
 /// Calls of one function with names of their own, until so many stand there.

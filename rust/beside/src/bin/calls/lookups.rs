@@ -118,14 +118,16 @@ impl Looked {
         Ok(())
     }
 
-    /// Names, and all that is asked for by number or without one.
-    pub fn message(&mut self, l: &Lent, names: &[&[u8]]) -> Compared {
+    pub fn names(&mut self, l: &Lent, names: &[&[u8]]) -> Compared {
+        let [headers, _] = l.message.map(spots).unwrap_or_default();
+        names.iter().try_for_each(|name| self.name(l, &headers, name))
+    }
+
+    /// All that is asked for by number, or without one.
+    pub fn others(&mut self, l: &Lent) -> Compared {
         let (r, head, body) = (l.record, l.head, l.body);
         let entries = l.message.map(spots).unwrap_or_default();
         let [headers, contents] = &entries;
-        for name in names {
-            self.name(l, headers, name)?;
-        }
         self.places(l, &entries)?;
         for n in and_beyond(contents.len()) {
             self.pair("content_header", &n, head, raw::content_header(r, head, n), contents.get(n))?;

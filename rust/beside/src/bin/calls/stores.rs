@@ -192,7 +192,8 @@ impl Stores {
         self.tally.losses[want.1.clause] += 1;
     }
 
-    /// The lookups of some names, and of all else, in what is held by stores of these lengths; `whole` where the body store is judged too.
+    /// The lookups of some names, and of all else where no name is given, in what is held by stores of these lengths; `whole` where the body
+    /// store is judged too.
     pub fn look_up(&mut self, names: &[&[u8]], lengths: Lengths, whole: Option<&CpimMessage>) {
         let lent = Lent {
             record: self.record,
@@ -207,7 +208,11 @@ impl Stores {
             header: self.header.as_ref(),
         };
         let looked = &mut self.tally.looked;
-        if let Err(difference) = looked.message(&lent, names).and_then(|()| looked.alone(&alone)) {
+        let compared = match names {
+            [] => looked.others(&lent).and_then(|()| looked.alone(&alone)),
+            _ => looked.names(&lent, names),
+        };
+        if let Err(difference) = compared {
             self.differ("a lookup", &difference, &"see there");
         }
     }
