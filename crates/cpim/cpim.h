@@ -92,6 +92,13 @@ typedef struct {
     size_t value;
 } cpim_pair_t;
 
+/* A part of the text or of the buffer: whether of the text, where it begins, and its length. */
+typedef struct {
+    bool in_text;
+    size_t start;
+    size_t length;
+} cpim_body_place_t;
+
 /* Reads a text. Refused: the empty record, and zeros over both stores. 1, 24, 2, 3, 25; a header line 4, 6 to 9, 12 to 16, 21, 5, 10, 20, 25; a content
  * line 17 to 19, or 6 to 11, 22, 25; then 23, 26. */
 cpim_answer_t cpim_parse(const uint8_t *text, size_t text_len, uint8_t *head, size_t head_len, uint8_t *body,
@@ -100,6 +107,11 @@ cpim_answer_t cpim_parse(const uint8_t *text, size_t text_len, uint8_t *head, si
 /* The length of a text's body. Under CRLFCRLF the body is the end of the text and the buffer is not used; under LFLF it is written to the buffer's
  * start. 1, 24, 2, 23, 26 (under LFLF only). */
 cpim_length_answer_t cpim_read_body(const uint8_t *text, size_t text_len, uint8_t *buffer, size_t buffer_len);
+
+/* The body behind cpim_read_body, by the length that it gave: a part of the text under CRLFCRLF, whatever the length; the buffer's start under LFLF.
+ * Empty where cpim_read_body refuses by 1, 24, 2 or 23, and under LFLF where the length exceeds the buffer. */
+cpim_body_place_t cpim_body_part(const uint8_t *text, size_t text_len, const uint8_t *buffer, size_t buffer_len,
+                                 size_t length);
 
 /* A message of a type and a body, copied into store. Refused: the empty record. 24, 17 to 19, 23, 25, 26. */
 cpim_answer_t cpim_new(const uint8_t *content_type, size_t content_type_len, const uint8_t *body, size_t body_len,
@@ -217,6 +229,9 @@ cpim_pair_t cpim_header_param(cpim_header_t h, const uint8_t *store, size_t stor
 size_t cpim_count_headers(cpim_message_t m, const uint8_t *head, size_t head_len);
 size_t cpim_count_params(cpim_message_t m, const uint8_t *head, size_t head_len);
 size_t cpim_count_contents(cpim_message_t m, const uint8_t *head, size_t head_len);
+
+/* The part of a value between its first < and the next >, in value; the value may be any bytes. */
+cpim_part_t cpim_address(const uint8_t *value, size_t value_len);
 
 /* Where all of them stand: a row of four numbers for each header, behind it those of its parameters, then for each content header. A row is where the
  * name begins, the name's length, the length of the value right behind it, and how many parameters. out_len counts numbers, and so does what 26 carries;

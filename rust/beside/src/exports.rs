@@ -38,8 +38,9 @@ pub const BY_LOOKUPS: &[&str] = &[
     "count_params",
     "count_contents",
     "places",
+    "address",
 ];
-pub const BY_TEXTS: &[&str] = &["parse", "read_body", "to_string"];
+pub const BY_TEXTS: &[&str] = &["parse", "read_body", "body_part", "to_string"];
 
 const SOURCES: [&str; 2] = [
     include_str!(concat!(env!("CARGO_MANIFEST_DIR"), "/../../crates/cpim/src/lib.rt")),

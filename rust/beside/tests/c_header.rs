@@ -31,6 +31,7 @@ fn c_type(t: &str) -> &str {
         "Loss" => "cpim_loss_t",
         "Part" => "cpim_part_t",
         "Pair" => "cpim_pair_t",
+        "BodyPlace" => "cpim_body_place_t",
         _ => panic!("how is a `{t}` written in C?"),
     }
 }
@@ -38,6 +39,7 @@ fn c_type(t: &str) -> &str {
 /// A parameter; a slice is its place and its length.
 fn c_parameter(parameter: &str) -> String {
     let (name, t) = parameter.split_once(": ").expect("name: type");
+    let t = &t.replace("&'a ", "&");
     let (lent, constant) = match t.strip_prefix("&mut [") {
         Some(lent) => (Some(lent), ""),
         None => (t.strip_prefix("&["), "const "),
@@ -54,6 +56,7 @@ fn declarations(source: &str) -> Vec<String> {
     exports
         .map(|export| {
             let (name, rest) = export.split_once('(').unwrap();
+            let name = name.trim_end_matches("<'a>");
             let (parameters, rest) = rest.split_once(") -> ").unwrap();
             let parameters: Vec<String> =
                 parameters.split(',').map(str::trim).filter(|p| !p.is_empty()).map(c_parameter).collect();

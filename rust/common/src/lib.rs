@@ -21,8 +21,8 @@ pub fn grouped(n: u64) -> String {
     format!("{},{:03}", grouped(n / 1_000), n % 1_000)
 }
 
-/// The names, behind their prefix, of the C functions that a crate's `src/lib.rt` exports.
+/// The names, behind their prefix, of the C functions that a crate's source exports.
 pub fn exports<'a>(source: &'a str, prefix: &'a str) -> impl Iterator<Item = &'a str> {
-    let names = source.lines().filter_map(|line| line.strip_prefix("pub extern \"C\" fn ")?.split('(').next());
+    let names = source.lines().filter_map(|line| line.strip_prefix("pub extern \"C\" fn ")?.split(['(', '<']).next());
     names.map(move |name| name.strip_prefix(prefix).unwrap_or(name))
 }

@@ -189,13 +189,11 @@ impl<'a> Header<'a> {
 /// The body of a text without a store for it: a part of the text, or, where the text has LFLF for its separator, the start of the buffer, to
 /// which it is written.
 pub fn body_of<'a>(text: &'a [u8], buffer: &'a mut [u8]) -> Result<&'a [u8], Refusal> {
-    // Under CRLFCRLF no buffer is needed, and the body is the end of the text; an empty one is the end of any text.
-    match raw::read_body(text, &mut []).accepted() {
-        Ok(len) => Ok(&text[text.len() - len..]),
-        Err(Refusal { number: 26, .. }) => {
-            let len = raw::read_body(text, buffer).accepted()?;
-            Ok(&buffer[..len])
-        }
-        Err(refusal) => Err(refusal),
-    }
+    let len = raw::read_body(text, buffer).accepted()?;
+    Ok(raw::body_part(text, buffer, len).of(text, buffer))
+}
+
+/// The address in a value: what stands between its first `<` and the next `>`.
+pub fn address(value: &str) -> Option<&str> {
+    raw::address(value.as_bytes()).of(value.as_bytes()).map(text)
 }

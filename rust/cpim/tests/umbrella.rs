@@ -131,6 +131,12 @@ fn lent_stores() {
 }
 
 #[test]
+fn addresses() {
+    assert_eq!(lent::address("North depot <im:north@depots.example>"), Some("im:north@depots.example"));
+    assert_eq!((lent::address("> <>"), lent::address("<im:a"), lent::address("im:a>")), (Some(""), None, None));
+}
+
+#[test]
 fn a_body_without_a_store() {
     let crlf = "message/cpim\r\n\r\na:b\r\n\r\n\r\n\r\nx\r\n\r\ny";
     assert_eq!(lent::body_of(crlf.as_bytes(), &mut []), Ok(&b"x\r\n\r\ny"[..]));

@@ -35,6 +35,22 @@ impl Pair {
     }
 }
 
+/// A part of the text or of the buffer: in which of the two, where it begins, and its length.
+#[repr(C)]
+#[derive(Clone, Copy, Debug, PartialEq, Eq)]
+pub struct BodyPlace {
+    pub in_text: bool,
+    pub start: usize,
+    pub length: usize,
+}
+
+impl BodyPlace {
+    /// The part of what was lent.
+    pub fn of<'a>(self, text: &'a [u8], buffer: &'a [u8]) -> &'a [u8] {
+        &(if self.in_text { text } else { buffer })[self.start..][..self.length]
+    }
+}
+
 extern "C" {
     fn cpim_get_header(m: Record, head: *const u8, _: usize, name: *const u8, _: usize) -> Part;
     fn cpim_get_header_value(m: Record, head: *const u8, _: usize, name: *const u8, _: usize, n: usize) -> Part;
@@ -49,6 +65,8 @@ extern "C" {
     fn cpim_count_params(m: Record, head: *const u8, _: usize) -> usize;
     fn cpim_count_contents(m: Record, head: *const u8, _: usize) -> usize;
     fn cpim_places(m: Record, head: *const u8, _: usize, out: *mut usize, _: usize) -> Numbers;
+    fn cpim_address(value: *const u8, _: usize) -> Part;
+    fn cpim_body_part(text: *const u8, _: usize, buffer: *const u8, _: usize, length: usize) -> BodyPlace;
 }
 
 // SAFETY of every call below: as in raw.rs.
@@ -117,4 +135,15 @@ pub fn count_contents(m: Record, head: &[u8]) -> usize {
 /// numbers are needed.
 pub fn places(m: Record, head: &[u8], out: &mut [usize]) -> Numbers {
     unsafe { cpim_places(m, head.as_ptr(), head.len(), out.as_mut_ptr(), out.len()) }
+}
+
+/// The part of a value between its first `<` and the next `>`.
+pub fn address(value: &[u8]) -> Part {
+    unsafe { cpim_address(value.as_ptr(), value.len()) }
+}
+
+/// The body of a text behind [`read_body`](super::read_body), by the length that it gave: a part of the text under CRLFCRLF, of the buffer under
+/// LFLF. Empty where that refuses by 1, 24, 2 or 23, or the length exceeds the buffer.
+pub fn body_part(text: &[u8], buffer: &[u8], length: usize) -> BodyPlace {
+    unsafe { cpim_body_part(text.as_ptr(), text.len(), buffer.as_ptr(), buffer.len(), length) }
 }

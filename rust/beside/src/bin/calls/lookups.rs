@@ -82,6 +82,14 @@ impl Looked {
         }
     }
 
+    /// The first `<`, and the first `>` behind it.
+    pub fn address(&mut self, value: &[u8]) -> Compared {
+        let next = |from: usize, sign: u8| value[from..].iter().position(|b| *b == sign);
+        let there = next(0, b'<').map(|at| at + 1).and_then(|start| Some((start, next(start, b'>')?)));
+        let there = there.map_or_else(Part::default, |(start, length)| Part { found: true, start, length });
+        self.part("address", &value.escape_ascii().to_string(), raw::address(value), there)
+    }
+
     /// One name: every value of it, every parameter of each, and what is beyond their ends.
     fn name(&mut self, l: &Lent, headers: &[Spot], name: &[u8]) -> Compared {
         let (r, head, asked) = (l.record, l.head, name.escape_ascii().to_string());
@@ -89,6 +97,7 @@ impl Looked {
         self.value("get_header", &asked, head, raw::get_header(r, head, name), values.first().copied())?;
         for k in and_beyond(values.len()) {
             let value = values.get(k).copied();
+            value.map_or(Ok(()), |spot| self.address(spot.value))?;
             self.value("get_header_value", &(&asked, k), head, raw::get_header_value(r, head, name, k), value)?;
             let params = value.map_or(&[][..], |spot| &spot.params);
             for n in (0..params.len()).chain([params.len()]) {

@@ -10,7 +10,7 @@ mod scripts;
 mod stores;
 
 use beside::exports::{all_compared, BY_CALLS, BY_LISTS, BY_LOOKUPS};
-use common::{grouped, in_parts};
+use common::{grouped, in_parts, words};
 use std::process::exit;
 use stores::{Stores, Tally};
 
@@ -27,6 +27,16 @@ fn add(sum: &mut Tally, t: &Tally) {
     sum.looked.add(&t.looked);
 }
 
+/// Every value of up to nine pieces.
+fn addresses(stores: &mut Stores) {
+    words(&[b'<', b'>', b'a', 0xFF], 9, (0, 1), |value| {
+        if let Err(difference) = stores.tally.looked.address(value) {
+            eprintln!("{difference}");
+            exit(1);
+        }
+    });
+}
+
 /// What a thread lends, and what it counted: in lists, and on what was damaged.
 struct Worker {
     stores: Stores,
@@ -41,6 +51,7 @@ fn part(w: &mut Worker, part: usize) {
         add(sum, &stores.tally);
     };
     if part == 0 {
+        run(&mut w.lists, &mut w.stores, &addresses);
         return run(&mut w.lists, &mut Stores::new(10_485_761), &largest::run);
     }
     run(&mut w.lists, &mut w.stores, &|stores| lists::part(stores, part, LISTS));

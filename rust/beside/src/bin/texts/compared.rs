@@ -194,5 +194,19 @@ impl Compared {
         if let Some((places, here, there)) = self.body.differences(buffer) {
             differ(&format!("The buffer at {places:?}"), &buffer, text, &here, &there);
         }
+        for length in [got.record, buffer, buffer + 1, usize::MAX] {
+            self.body_part(text, reading, buffer, length);
+        }
+    }
+
+    /// The second call, with any length.
+    fn body_part(&mut self, text: &[u8], reading: &Reading, buffer: usize, length: usize) {
+        let lent = self.body.bytes(buffer);
+        let got = raw::body_part(text, lent, length);
+        let (want, part) = reading.part(text, lent, length);
+        if got != want || got.of(text, lent) != part {
+            differ("The second call for the body", &(buffer, length), text, &got, &want);
+        }
+        self.tally.parts[usize::from(!got.in_text)] += 1;
     }
 }

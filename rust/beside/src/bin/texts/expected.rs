@@ -2,6 +2,7 @@
 
 use beside::layout::need;
 use beside::refusals::{number, text, Refusal};
+use cpim::raw::BodyPlace;
 use source::cpim::{parse_cpim, CpimMessage};
 use std::collections::BTreeMap;
 
@@ -65,6 +66,18 @@ impl Reading {
             return Err((26, body.len() as u64));
         }
         Ok(body)
+    }
+
+    /// What the second call must give for a text with a buffer and a length: whether it stands in the text, where, and its bytes.
+    pub fn part<'a>(&'a self, text: &[u8], buffer: &'a [u8], length: usize) -> (BodyPlace, &'a [u8]) {
+        let crlf = text.windows(4).any(|w| w == CRLFCRLF.as_bytes());
+        let part = match &self.body {
+            Err(_) => &[],
+            Ok(body) if crlf => &body[..],
+            Ok(_) => buffer.get(..length).unwrap_or_default(),
+        };
+        let start = if crlf { text.len() - part.len() } else { 0 };
+        (BodyPlace { in_text: crlf, start, length: part.len() }, part)
     }
 }
 

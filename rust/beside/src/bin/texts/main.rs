@@ -78,7 +78,9 @@ fn main() {
     let [written, nothing, short] = all.written.map(grouped);
     println!("Written: {written}; 25 carrying 0: {nothing}, 26: {short}.");
     let bodies = [0, 1, 2, 23, 24, 26].map(|k| all.bodies[k]);
-    if all.read.contains(&0) || bodies.contains(&0) || all.written.contains(&0) {
+    let [in_text, in_buffer] = all.parts.map(grouped);
+    println!("The second call for the body: {in_text} in the text, {in_buffer} in the buffer.");
+    if [&all.read[..], &bodies, &all.written, &all.parts].iter().any(|answers| answers.contains(&0)) {
         eprintln!("an answer was never seen: {:?}, {:?}, {:?}", all.read, all.bodies, all.written);
         exit(1);
     }

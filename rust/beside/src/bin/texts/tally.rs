@@ -3,12 +3,13 @@
 use beside::exports::BY_TEXTS;
 
 /// How often each answer was given by reading and by the body without a store: accepted (0) and each number; by writing: accepted,
-/// 25 carrying 0, 26.
+/// 25 carrying 0, 26; by the second call for the body: in the text, in the buffer.
 #[derive(Clone, Default)]
 pub struct Tally {
     pub read: [u64; 27],
     pub bodies: [u64; 27],
     pub written: [u64; 3],
+    pub parts: [u64; 2],
 }
 
 impl Tally {
@@ -16,11 +17,12 @@ impl Tally {
         self.read.iter_mut().zip(t.read).for_each(|(a, b)| *a += b);
         self.bodies.iter_mut().zip(t.bodies).for_each(|(a, b)| *a += b);
         self.written.iter_mut().zip(t.written).for_each(|(a, b)| *a += b);
+        self.parts.iter_mut().zip(t.parts).for_each(|(a, b)| *a += b);
     }
 
     /// How many answers each function of `BY_TEXTS` gave.
     pub fn by_function(&self) -> [u64; BY_TEXTS.len()] {
-        [self.read.iter().sum(), self.bodies.iter().sum(), self.written.iter().sum()]
+        [&self.read[..], &self.bodies, &self.parts, &self.written].map(|answers| answers.iter().sum())
     }
 
     pub fn all(&self) -> u64 {
