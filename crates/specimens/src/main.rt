@@ -7,6 +7,9 @@ use io::print_decimal;
 use io::write_all;
 use octets::copy_at;
 use reading::parse_cpim;
+use text_parts::body_part;
+use text_parts::read_body;
+use whole::comes_back;
 use writing::to_string;
 
 // The bytes of s at a place of a text, where there is room for them; the place behind them.
@@ -207,8 +210,19 @@ fn no_body_store(text: &[u8]) {
     print_numbers(b"no body store", read.number, read.carried);
 }
 
+// Whether a message comes back from its text.
+fn print_whole(name: &[u8], m: CpimMessage, head: &[u8], body: &[u8]) {
+    write_all(1, name);
+    if comes_back(m, head, body) {
+        write_all(1, b" comes back\n");
+        return;
+    }
+    write_all(1, b" does not come back\n");
+}
+
 // A message's text read.
 fn back(name: &[u8], m: CpimMessage, head: &[u8], body: &[u8]) {
+    print_whole(name, m, head, body);
     let mut out = [0u8; 8192];
     let n = to_string(m, head, body, &mut out);
     read(name, first(&out, n.length));
@@ -250,7 +264,37 @@ fn content_again() {
     print_numbers(b"P11", again.number, again.carried);
 }
 
+// A parameter's value that no text can have.
+fn semicolon() {
+    let mut store = [0u8; 64];
+    let made = header::new(b"Hi", &mut store);
+    let a = header::with_param(made.header, &mut store, b"a", b"a;b");
+    print_numbers(b"16 by a call", a.number, a.carried);
+}
+
+// The body without a store, in two calls.
+fn body_of<'a>(text: &'a [u8], buffer: &'a mut [u8]) {
+    let a = read_body(text, buffer);
+    print_numbers(b"body", a.number, a.carried);
+    write_all(1, body_part(text, buffer, a.length));
+    write_all(1, b"\n");
+}
+
+fn bodies() {
+    let mut none = [0u8; 0];
+    body_of(
+        b"message/cpim\r\n\r\nTo: a\r\n\r\nContent-type: text/plain\r\n\r\nHi",
+        &mut none,
+    );
+    let mut six = [0u8; 6];
+    let mut five = [0u8; 5];
+    let lines = b"message/cpim\n\nTo: a\n\nContent-type: text/plain\n\na\n\nb";
+    body_of(lines, &mut six);
+    body_of(lines, &mut five);
+}
+
 fn specimens() {
+    with_value(b"P1 by a call", b"A\\B");
     notice(b"P1", b"To: A\\\\B", b"Content-type: text/plain");
     notice(b"P2", b"To: \\u0041", b"Content-type: text/plain");
     notice(b"P3", b"To: \\u+041", b"Content-type: text/plain");
@@ -273,5 +317,7 @@ fn main() {
     stores(text);
     outputs(text);
     no_body_store(text);
+    semicolon();
+    bodies();
     specimens();
 }
