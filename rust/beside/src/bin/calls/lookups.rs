@@ -28,12 +28,19 @@ pub struct Looked {
     pub found: u64,
 }
 
-/// What differs.
-type Compared = Result<(), String>;
+/// What differs, as it is here and as it must be.
+type Compared = Result<(), [String; 3]>;
 
 /// As many as there are, and beyond the end.
 fn and_beyond(count: usize) -> impl Iterator<Item = usize> {
     (0..count).chain([count, usize::MAX])
+}
+
+fn alike<T: PartialEq + Debug>(function: &str, asked: &dyn Debug, here: T, there: T) -> Compared {
+    if here == there {
+        return Ok(());
+    }
+    Err([format!("cpim_{function} of {asked:?}"), format!("{here:?}"), format!("{there:?}")])
 }
 
 impl Looked {
@@ -47,11 +54,8 @@ impl Looked {
     }
 
     fn same<T: PartialEq + Debug>(&mut self, function: &str, asked: &dyn Debug, here: T, there: T) -> Compared {
-        if here != there {
-            return Err(format!("cpim_{function} of {asked:?} gives {here:?}, the source {there:?}"));
-        }
         self.answers[BY_LOOKUPS.iter().position(|f| *f == function).expect("a lookup")] += 1;
-        Ok(())
+        alike(function, asked, here, there)
     }
 
     fn part(&mut self, function: &str, asked: &dyn Debug, here: Part, there: Part) -> Compared {
@@ -62,24 +66,14 @@ impl Looked {
     /// A value by its place, and the bytes there.
     fn value(&mut self, function: &str, asked: &dyn Debug, store: &[u8], here: Part, there: Option<&Spot>) -> Compared {
         self.part(function, asked, here, there.map_or_else(Part::default, Spot::part))?;
-        match there {
-            Some(spot) if here.of(store) != Some(spot.value) => {
-                Err(format!("cpim_{function} of {asked:?}: other bytes"))
-            }
-            _ => Ok(()),
-        }
+        alike(function, asked, here.of(store), there.map(|spot| spot.value))
     }
 
     /// Name and value by their place, and the bytes there.
     fn pair(&mut self, function: &str, asked: &dyn Debug, store: &[u8], here: Pair, there: Option<&Spot>) -> Compared {
         self.found += u64::from(there.is_some());
         self.same(function, asked, here, there.map_or_else(Pair::default, Spot::pair))?;
-        match there {
-            Some(spot) if here.of(store) != Some((spot.name, spot.value)) => {
-                Err(format!("cpim_{function} of {asked:?}: other bytes"))
-            }
-            _ => Ok(()),
-        }
+        alike(function, asked, here.of(store), there.map(|spot| (spot.name, spot.value)))
     }
 
     /// The first `<`, and the first `>` behind it.
@@ -159,9 +153,7 @@ impl Looked {
         let value = |h: &CpimHeader| Part { found: true, start: 16, length: h.value().len() };
         let here = raw::header_value(r, store);
         self.part("header_value", &"it", here, l.header.map_or_else(Part::default, value))?;
-        if here.of(store) != l.header.map(|h| h.value().as_bytes()) {
-            return Err("cpim_header_value: other bytes".into());
-        }
+        alike("header_value", &"it", here.of(store), l.header.map(|h| h.value().as_bytes()))?;
         let params = l.header.map_or_else(Vec::new, spots_alone);
         for n in and_beyond(params.len()) {
             self.pair("header_param", &n, store, raw::header_param(r, store, n), params.get(n))?;

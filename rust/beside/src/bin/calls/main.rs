@@ -30,8 +30,8 @@ fn add(sum: &mut Tally, t: &Tally) {
 /// Every value of up to nine pieces.
 fn addresses(stores: &mut Stores) {
     words(&[b'<', b'>', b'a', 0xFF], 9, (0, 1), |value| {
-        if let Err(difference) = stores.tally.looked.address(value) {
-            eprintln!("{difference}");
+        if let Err([what, here, there]) = stores.tally.looked.address(value) {
+            eprintln!("{what} differs.\nhere: {here}\nRust: {there}");
             exit(1);
         }
     });

@@ -212,8 +212,8 @@ impl Stores {
             [] => looked.others(&lent).and_then(|()| looked.alone(&alone)),
             _ => looked.names(&lent, names),
         };
-        if let Err(difference) = compared {
-            self.differ("a lookup", &difference, &"see there");
+        if let Err([what, here, there]) = compared {
+            self.differ(&what, &here, &there);
         }
     }
 
