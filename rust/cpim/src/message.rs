@@ -192,7 +192,7 @@ impl CpimMessage {
             match raw::to_string(self.record, &self.head, &self.body, &mut out).accepted() {
                 Ok(len) => {
                     out.truncate(len);
-                    return Ok(String::from_utf8(out).expect("a message's text is UTF-8"));
+                    return Ok(raw::written(out));
                 }
                 Err(Refusal { number: 26, carried }) if carried as usize > out.len() => out = vec![0; carried as usize],
                 Err(refusal) => return Err(refusal.into()),

@@ -234,3 +234,10 @@ pub(crate) fn text(bytes: &[u8]) -> &str {
         std::str::from_utf8(bytes).expect("what is held is UTF-8")
     }
 }
+
+/// What [`to_string`] wrote, no more and no less.
+pub(crate) fn written(text: Vec<u8>) -> String {
+    // SAFETY: the text of a message is UTF-8, whatever its body: proved as `write-utf8` in crates/format/proofs/Texts/WriteText.antt. To test
+    // a text beyond ASCII once more would take as long as to write it.
+    unsafe { String::from_utf8_unchecked(text) }
+}

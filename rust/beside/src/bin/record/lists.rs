@@ -1,9 +1,9 @@
 //! Lists of changing calls, as scripts (crates/script/specs/Script.antt) and made on the source's message; a refused call keeps it.
 
-use common::Random;
 use beside::layout::{layout_alone, record_alone};
 use beside::names::Kind;
 use beside::refusals::{number, text, Refusal};
+use common::Random;
 use source::cpim::{CpimError, CpimHeader, CpimMessage};
 
 const KIND: Kind = Kind { odd: 12, long: false };

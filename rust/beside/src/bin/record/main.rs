@@ -9,9 +9,9 @@
 mod lists;
 mod texts;
 
-use common::Random;
 use beside::layout::layout;
 use beside::refusals::{number, text, Refusal};
+use common::Random;
 use source::cpim::{parse_cpim, CpimMessage};
 use std::io::{stdout, Write};
 

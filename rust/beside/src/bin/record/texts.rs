@@ -1,7 +1,7 @@
 //! Texts: most have a header or two and are accepted, or are refused in one line; and one at and past each limit.
 
-use common::Random;
 use beside::names::{text_of, Kind};
+use common::Random;
 
 const KIND: Kind = Kind { odd: 40, long: false };
 
