@@ -44,14 +44,14 @@ conditions =
     ∷ ascii "body too long"
     ∷ ascii "text not UTF-8"
     ∷ ascii "head store too short"
-    ∷ ascii "body store or output too short"
+    ∷ ascii "input or body longer than there is room for"
     ∷ []
 
 -- why a message does not come back whole, by clause; of a clause about an entry, what is said behind its name
 unfoldable pub reasons : List Bytes
 reasons =
     ascii "comes back whole"
-    ∷ ascii "it has no header: its text lacks a section"
+    ∷ ascii "it has no header: its text is refused, or read as another message"
     ∷ ascii "has a parameter: it is written behind the colon and read as part of the value"
     ∷ ascii "its body is not UTF-8: ill-formed bytes are written as U+FFFD"
     ∷ ascii "is called Content-type: it is read as the type"

@@ -35,7 +35,7 @@ fn put_condition(out: &mut [u8], at: usize, number: u64) -> usize
     ensures { λ r. ⌜ Put at 80 (condition number) (now (out .entry)) (now (out .exit)) r ⌝ }
 {
     let words = line(
-        b"accepted\ntext too long\nfewer than 4 sections\nno message/cpim\nheader line lacks a colon\nbad escape\nname empty\nname too long\nASCII control in name\none of : ; = \\ \" in name\nvalue too long\nASCII control in content value\nparameter name empty\nparameter name too long\nASCII control or ; = \\ \" in parameter name\nparameter value too long\nASCII control or ; \\ \" in parameter value\ncontent type empty\ncontent type too long\nASCII control in content type\ntoo many headers\ntoo many parameters\ntoo many content headers\nbody too long\ntext not UTF-8\nhead store too short\nbody store or output too short\n",
+        b"accepted\ntext too long\nfewer than 4 sections\nno message/cpim\nheader line lacks a colon\nbad escape\nname empty\nname too long\nASCII control in name\none of : ; = \\ \" in name\nvalue too long\nASCII control in content value\nparameter name empty\nparameter name too long\nASCII control or ; = \\ \" in parameter name\nparameter value too long\nASCII control or ; \\ \" in parameter value\ncontent type empty\ncontent type too long\nASCII control in content type\ntoo many headers\ntoo many parameters\ntoo many content headers\nbody too long\ntext not UTF-8\nhead store too short\ninput or body longer than there is room for\n",
         number as usize,
     );
     put(out, at, words)
@@ -47,7 +47,7 @@ pub fn put_reason(out: &mut [u8], at: usize, clause: usize) -> usize
     ensures { λ r. ⌜ Put at 80 (reason clause) (now (out .entry)) (now (out .exit)) r ⌝ }
 {
     let words = line(
-        b"comes back whole\nit has no header: its text lacks a section\nhas a parameter: it is written behind the colon and read as part of the value\nits body is not UTF-8: ill-formed bytes are written as U+FFFD\nis called Content-type: it is read as the type\nhas white space at an end of its name: it is trimmed when read\nhas white space at an end of its name or value: it is trimmed when read\nits type has white space at an end: it is trimmed when read\nhas white space at an end of its value: it is trimmed when read\nnothing is held\n",
+        b"comes back whole\nit has no header: its text is refused, or read as another message\nhas a parameter: it is written behind the colon and read as part of the value\nits body is not UTF-8: ill-formed bytes are written as U+FFFD\nis called Content-type: it is read as the type\nhas white space at an end of its name: it is trimmed when read\nhas white space at an end of its name or value: it is trimmed when read\nits type has white space at an end: it is trimmed when read\nhas white space at an end of its value: it is trimmed when read\nnothing is held\n",
         clause,
     );
     put(out, at, words)

@@ -143,6 +143,14 @@ impl From<Refusal> for CpimError {
     }
 }
 
+/// The refusal, one of 24 to 26, whose own words these are.
+fn in_own_words(why: &str) -> Option<Refusal> {
+    let number = why.split(':').next()?.parse().ok().filter(|n| (24..=26).contains(n))?;
+    let carried = why.rsplit('(').next()?.split(' ').next()?.parse().unwrap_or(0);
+    let refusal = Refusal { number, carried };
+    (refusal.to_string() == why).then_some(refusal)
+}
+
 impl CpimError {
     /// The number in document 01's table; 0 for an error in words that this crate does not use.
     pub fn number(&self) -> u64 {
@@ -150,7 +158,10 @@ impl CpimError {
         let by_words = |words: &str, known: &[(&str, u64)]| known.iter().find(|(w, _)| *w == words).map_or(0, |k| k.1);
         match self {
             InputTooLarge { .. } => 1,
-            ParseError(why) => by_words(why, &[(SECTIONS, 2), (MIME, 3), (COLON, 4), (ESCAPE, 5)]),
+            ParseError(why) => match in_own_words(why) {
+                Some(refusal) => refusal.number,
+                None => by_words(why, &[(SECTIONS, 2), (MIME, 3), (COLON, 4), (ESCAPE, 5)]),
+            },
             InvalidHeaderName(why) => by_words(why, &[(EMPTY, 6), (CONTROL, 8), (INVALID, 9)]),
             HeaderNameTooLong { .. } => 7,
             HeaderValueTooLong { .. } => 10,
@@ -168,9 +179,12 @@ impl CpimError {
         }
     }
 
-    /// What the refusal carries: the actual length or count, else 0.
+    /// What the refusal carries: the actual length or count, the bytes needed for 25 and 26, else 0.
     pub fn carried(&self) -> u64 {
-        self.limit().map_or(0, |(_, _, actual)| actual as u64)
+        match self {
+            CpimError::ParseError(why) => in_own_words(why).map_or(0, |refusal| refusal.carried),
+            _ => self.limit().map_or(0, |(_, _, actual)| actual as u64),
+        }
     }
 
     /// Both numbers; printed, it says the rule in plain words.
@@ -217,3 +231,14 @@ impl fmt::Display for CpimError {
 }
 
 impl std::error::Error for CpimError {}
+
+#[test]
+fn every_refusal_is_kept() {
+    let carrying = [1, 7, 10, 13, 15, 18, 20, 21, 22, 23, 25, 26];
+    for number in 1..=26 {
+        let carried = if carrying.contains(&number) { 4_711 } else { 0 };
+        assert_eq!(CpimError::from(Refusal { number, carried }).refusal(), Refusal { number, carried });
+    }
+    let nothing_held = Refusal { number: 25, carried: 0 };
+    assert_eq!(CpimError::from(nothing_held).refusal(), nothing_held);
+}

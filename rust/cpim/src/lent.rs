@@ -2,7 +2,8 @@
 //! any bytes.
 //!
 //! A head store takes 256 bytes, and 16 and its name and value for each header, parameter and content header; never more than 250,016. A
-//! store that is too short is refused by 25 (26 for a body store or an output) carrying the bytes needed, and nothing is changed.
+//! store that is too short is refused by 25 (26 for a body store or an output) carrying the bytes needed, and nothing is changed; a refused
+//! reading alone leaves zeros.
 //!
 //! ```
 //! use cpim::lent::Message;
@@ -26,6 +27,7 @@ pub use crate::raw::{HeaderRecord, Record};
 use crate::error::Refusal;
 use crate::loss::Loss;
 use crate::raw::{self, text, Pair};
+use std::fmt;
 
 /// A message in lent stores.
 pub struct Message<'a> {
@@ -196,4 +198,16 @@ pub fn body_of<'a>(text: &'a [u8], buffer: &'a mut [u8]) -> Result<&'a [u8], Ref
 /// The address in a value: what stands between its first `<` and the next `>`.
 pub fn address(value: &str) -> Option<&str> {
     raw::address(value.as_bytes()).of(value.as_bytes()).map(text)
+}
+
+impl fmt::Debug for Message<'_> {
+    fn fmt(&self, f: &mut fmt::Formatter<'_>) -> fmt::Result {
+        f.debug_struct("Message").field("record", &self.record).finish_non_exhaustive()
+    }
+}
+
+impl fmt::Debug for Header<'_> {
+    fn fmt(&self, f: &mut fmt::Formatter<'_>) -> fmt::Result {
+        f.debug_struct("Header").field("record", &self.record).finish_non_exhaustive()
+    }
 }

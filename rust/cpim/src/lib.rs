@@ -16,7 +16,7 @@
 //! assert!(m.to_string()?.contains("Subject:;depot=north Black umbrella"));
 //! assert!(!m.comes_back());
 //! let loss = m.loss().unwrap();
-//! assert_eq!(loss.to_string(), "header 1 (Subject) has a parameter, and the text is read without it");
+//! assert_eq!(loss.to_string(), "header 2 in the order of names, Subject, has a parameter: it is written behind the colon and read as part of the value");
 //! # Ok::<(), cpim::CpimError>(())
 //! ```
 //!

@@ -8,7 +8,7 @@ use std::fmt;
 /// or content header, by its number in map order, counting from 0, and its name.
 #[derive(Debug, Clone, Copy, PartialEq, Eq)]
 pub enum Loss<'a> {
-    /// There is no header: the text is refused for want of a section.
+    /// There is no header: the text lacks a section, so it is refused, or read as another message where the body has a blank line.
     NoHeader,
     /// A header has a parameter, which is read as the start of its value.
     Parameter { header: usize, name: &'a str },
@@ -41,7 +41,8 @@ impl<'a> Loss<'a> {
             6 => Loss::ContentHeader { content_header, name: name(record, head, record.headers + entry) },
             7 => Loss::ContentType,
             8 => Loss::HeaderValue { header, name: name(record, head, entry) },
-            _ => return None,
+            0 => return None,
+            clause => unreachable!("clause {clause} of a message that is held"),
         })
     }
 }
@@ -55,27 +56,32 @@ fn name(record: Record, head: &[u8], n: usize) -> &str {
     text(&head[at])
 }
 
+/// The words of the program `wholecpim` (crates/words/specs/Words.antt): entries are counted from 1 here.
 impl fmt::Display for Loss<'_> {
     fn fmt(&self, f: &mut fmt::Formatter<'_>) -> fmt::Result {
+        let mut entry = |what: &str, n: &usize, name: &str, why: &str| {
+            write!(f, "{what} {} in the order of names, {}, {why}", n + 1, name.escape_debug())
+        };
         match self {
-            Loss::NoHeader => f.write_str("there is no header, and the text is not read without one"),
+            Loss::NoHeader => f.write_str("it has no header: its text is refused, or read as another message"),
             Loss::Parameter { header, name } => {
-                write!(f, "header {header} ({name}) has a parameter, and the text is read without it")
+                let why = "has a parameter: it is written behind the colon and read as part of the value";
+                entry("header", header, name, why)
             }
-            Loss::Body => f.write_str("the body is not UTF-8, and the text has U+FFFD for what is ill-formed"),
+            Loss::Body => f.write_str("its body is not UTF-8: ill-formed bytes are written as U+FFFD"),
             Loss::ContentTypeTwice { content_header, name } => {
-                write!(f, "content header {content_header} ({name}) is read as the content type")
+                entry("content header", content_header, name, "is called Content-type: it is read as the type")
             }
             Loss::HeaderName { header, name } => {
-                write!(f, "header {header} ({name}) has white space at an end of its name, which is trimmed in reading")
+                entry("header", header, name, "has white space at an end of its name: it is trimmed when read")
             }
-            Loss::ContentHeader { content_header, name } => write!(
-                f,
-                "content header {content_header} ({name}) has white space at an end of its name or value, which is trimmed in reading"
-            ),
-            Loss::ContentType => f.write_str("the content type has white space at an end, which is trimmed in reading"),
+            Loss::ContentHeader { content_header, name } => {
+                let why = "has white space at an end of its name or value: it is trimmed when read";
+                entry("content header", content_header, name, why)
+            }
+            Loss::ContentType => f.write_str("its type has white space at an end: it is trimmed when read"),
             Loss::HeaderValue { header, name } => {
-                write!(f, "header {header} ({name}) has white space at an end of its value, which is trimmed in reading")
+                entry("header", header, name, "has white space at an end of its value: it is trimmed when read")
             }
         }
     }

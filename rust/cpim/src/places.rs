@@ -24,7 +24,7 @@ pub(crate) fn rows_of(m: Record, head: &[u8]) -> Vec<usize> {
 }
 
 /// A header, parameter or content header where it stands.
-#[derive(Clone, Copy)]
+#[derive(Debug, Clone, Copy)]
 pub struct Entry<'a> {
     store: &'a [u8],
     /// Its row, and behind it those of its parameters.
@@ -56,7 +56,7 @@ impl<'a> Entry<'a> {
 }
 
 /// Entries one behind another.
-#[derive(Clone)]
+#[derive(Debug, Clone)]
 pub struct Entries<'a> {
     store: &'a [u8],
     rows: &'a [usize],
@@ -79,7 +79,7 @@ impl<'a> Iterator for Entries<'a> {
 }
 
 /// The headers and content headers of a message where they stand.
-#[derive(Clone, Copy)]
+#[derive(Debug, Clone, Copy)]
 pub struct Places<'a> {
     record: Record,
     head: &'a [u8],

@@ -19,7 +19,8 @@ fn a_depot_in_a_parameter_does_not_come_back() {
     m.add_header_obj("Subject", umbrella).unwrap();
     assert!(!m.comes_back());
     assert_eq!(m.loss(), Some(Loss::Parameter { header: 2, name: "Subject" }));
-    assert_eq!(m.loss().unwrap().to_string(), "header 2 (Subject) has a parameter, and the text is read without it");
+    let words = "header 3 in the order of names, Subject, has a parameter: it is written behind the colon and read as part of the value";
+    assert_eq!(m.loss().unwrap().to_string(), words);
     let read = parse_cpim(&m.to_string().unwrap()).unwrap();
     assert_eq!(read.get_header("Subject"), Some(";depot=north Black umbrella"));
     assert!(read.headers()["Subject"][0].params().is_empty());
@@ -38,17 +39,29 @@ fn each_clause_in_words() {
     ill.set_body(vec![0xFF]).unwrap();
     let typed = CpimMessage::new("text/plain ", Vec::new()).unwrap().with_from("a").unwrap();
     let cases = [
-        (bare, Loss::NoHeader, "there is no header"),
-        (ill, Loss::Body, "the body is not UTF-8"),
+        (bare, Loss::NoHeader, "it has no header"),
+        (ill, Loss::Body, "its body is not UTF-8"),
         (
             content("CONTENT-type", "a"),
             Loss::ContentTypeTwice { content_header: 0, name: "CONTENT-type" },
-            "content header 0",
+            "content header 1 in the order of names, CONTENT-type, is called",
         ),
-        (with("To ", "a"), Loss::HeaderName { header: 2, name: "To " }, "header 2 (To ) has white space"),
-        (content("a", "b "), Loss::ContentHeader { content_header: 0, name: "a" }, "content header 0 (a)"),
-        (typed, Loss::ContentType, "the content type has white space"),
-        (with("To", " a"), Loss::HeaderValue { header: 2, name: "To" }, "header 2 (To) has white space"),
+        (
+            with("To ", "a"),
+            Loss::HeaderName { header: 2, name: "To " },
+            "header 3 in the order of names, To , has white space",
+        ),
+        (
+            content("a", "b "),
+            Loss::ContentHeader { content_header: 0, name: "a" },
+            "content header 1 in the order of names, a, has",
+        ),
+        (typed, Loss::ContentType, "its type has white space"),
+        (
+            with("To", " a"),
+            Loss::HeaderValue { header: 2, name: "To" },
+            "header 3 in the order of names, To, has white space",
+        ),
     ];
     for (m, loss, words) in cases {
         assert_eq!(m.loss(), Some(loss));
