@@ -1,6 +1,6 @@
 /* CPIM messages (RFC 3862) in lent stores: the functions of target/staticlib/libcpim.a (made by `rt staticlib cpim`) and their records.
  *
- * A slice crosses as its place and its length. Any record, any bytes and any lengths are answered; nothing is allocated. What is lent to be
+ * A slice crosses as its place, which is never NULL, and its length, which may be 0. Any record, any bytes and any lengths are answered; nothing is allocated. What is lent to be
  * written must overlap nothing else that is lent to the same call.
  *
  * A head store takes 256 bytes, and 16 and its name and value for each header, parameter and content header (at most 250,016 bytes); a header alone

@@ -1,7 +1,8 @@
 //! CPIM messages (RFC 3862), read and written by a proved library, with the API of `sip_core::cpim`: a program that says
 //! `use sip_core::cpim::...` says `use cpim::...` instead.
 //!
-//! Every answer comes from the functions of crates/cpim. They are proved to give what the definitions of crates/format say, for every text and every
+//! What a call answers and does, and where the entries of a message stand, comes from the functions of crates/cpim; names are looked up there
+//! in Rust. The functions are proved to give what the definitions of crates/format say, for every text and every
 //! list of calls; that the definitions say what `sip_core::cpim` does is tested, by running that module beside the functions (`make compare`).
 //! Added is what that module cannot say: whether a message comes back from its text.
 //!

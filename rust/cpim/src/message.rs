@@ -1,4 +1,4 @@
-//! A message in stores of its own; every answer about it is one of the proved functions'.
+//! A message in stores of its own: what a call answers and does is the proved functions', and where the entries stand too.
 
 use crate::error::{CpimError, Refusal};
 use crate::header::{pairs, CpimHeader};
