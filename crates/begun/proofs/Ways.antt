@@ -3,9 +3,11 @@ use mathlib.Core.Path.{_≡_, refl, sym, ap, _∙_, subst}
 use mathlib.Core.List.{List}
 use Rattle.format.specs.Refusals.{Refusal, Out, accepted, refused, numbers}
 use Rattle.format.specs.Message.{Message}
-use Rattle.format.specs.Calls.{Stores, Call}
+use Rattle.format.specs.Bytes.{Bytes}
+use Rattle.format.specs.Calls.{Stores, Call, new}
+use Rattle.format.specs.Reading.{read}
 use Rattle.format.specs.Layout.{Lent, Holds, emptyMessage}
-use Rattle.format.specs.Lending.{ReadLeaves, zeroed, zeroedLent}
+use Rattle.format.specs.Lending.{ReadLeaves, zeroed, zeroedLent, lengths, Made, Parsed}
 use Rattle.format.specs.Demand3.{after}
 use Rattle.format.specs.declared.Numbers.{Numbers}
 use Rattle.format.proofs.Steps.{refused-number}
@@ -39,3 +41,10 @@ module _ (o : Out Message) (stores : Stores) (calls : List Call) (u k : Lent) (n
 -- what a refused reading leaves
 pub by-refusal : (l k : Lent) (o : Out Message) (x : Refusal) → o ≡ refused x → ReadLeaves l k o → k ≡ record { message = emptyMessage; head = zeroed (l .head); body = zeroedLent (l .body) }
 by-refusal l k o x h left = subst (λ (p : Out Message). ReadLeaves l k p) h left
+
+-- an accepted beginning, by the numbers that are answered for the list
+pub read-zero : (t : Bytes) (l k : Lent) (n : Numbers) → Parsed t l k n → n .number ≡ 0 → Parsed t l k (record { number = 0; carried = 0 })
+read-zero t l k n p z = record { answered = zero-accepted (read t (lengths l)) n (p .answered) z; left = p .left }
+
+pub made-zero : (t b : Bytes) (l k : Lent) (n : Numbers) → Made t b l k n → n .number ≡ 0 → Made t b l k (record { number = 0; carried = 0 })
+made-zero t b l k n p z = record { answered = zero-accepted (new t b (lengths l)) n (p .answered) z; left = p .left }

@@ -11,7 +11,10 @@ ghost use Rattle.format.specs.Calls.{new};
 ghost use Rattle.format.specs.Reading.{read};
 ghost use Rattle.format.specs.Layout.{emptyMessage};
 ghost use Rattle.format.specs.Lending.{bothLent, lengths, zeroed};
-ghost use Rattle.script.specs.Script.{callsIn};
+ghost use Rattle.format.specs.declared.CpimMessage.{CpimMessage};
+ghost use Rattle.format.specs.declared.Numbers.{Numbers};
+ghost use Rattle.script.specs.Script.{state, callsIn};
+ghost use Rattle.begun.specs.Began.{ReadThenRun, MadeThenRun};
 ghost use Rattle.sent.specs.Sent.{Sent};
 
 // A refusal's numbers; nothing is written.
@@ -33,7 +36,8 @@ pub fn read_run_write(
     body: &mut [u8],
     out: &mut [u8],
 ) -> LengthAnswer
-    ensures { λ r. ⌜ Sent (read (now (text .entry)) (lengths (bothLent emptyMessage (now (head .entry)) (now (body .entry))))) (lengths (bothLent emptyMessage (now (head .entry)) (now (body .entry)))) (callsIn (now (script .entry))) (bothLent emptyMessage (zeroed (now (head .entry))) (zeroed (now (body .entry)))) (now (head .exit)) (now (body .exit)) (now (out .entry)) (now (out .exit)) r ⌝ }
+    ensures steps { λ _. ⌜ ((k : CpimMessage) × (n : Numbers) × ReadThenRun (now (text .entry)) (bothLent emptyMessage (now (head .entry)) (now (body .entry))) (callsIn (now (script .entry))) (state k (now (head .exit)) (now (body .exit))) n) ⌝ }
+    ensures sent { λ r. ⌜ Sent (read (now (text .entry)) (lengths (bothLent emptyMessage (now (head .entry)) (now (body .entry))))) (lengths (bothLent emptyMessage (now (head .entry)) (now (body .entry)))) (callsIn (now (script .entry))) (bothLent emptyMessage (zeroed (now (head .entry))) (zeroed (now (body .entry)))) (now (head .exit)) (now (body .exit)) (now (out .entry)) (now (out .exit)) r ⌝ }
 {
     let begun = read_and_run(text, script, head, body);
     if begun.number != 0 {
@@ -51,7 +55,8 @@ pub fn new_run_write(
     body: &mut [u8],
     out: &mut [u8],
 ) -> LengthAnswer
-    ensures { λ r. ⌜ Sent (new (now («content_type» .entry)) (now (content .entry)) (lengths (bothLent emptyMessage (now (head .entry)) (now (body .entry))))) (lengths (bothLent emptyMessage (now (head .entry)) (now (body .entry)))) (callsIn (now (script .entry))) (bothLent emptyMessage (now (head .entry)) (now (body .entry))) (now (head .exit)) (now (body .exit)) (now (out .entry)) (now (out .exit)) r ⌝ }
+    ensures steps { λ _. ⌜ ((k : CpimMessage) × (n : Numbers) × MadeThenRun (now («content_type» .entry)) (now (content .entry)) (bothLent emptyMessage (now (head .entry)) (now (body .entry))) (callsIn (now (script .entry))) (state k (now (head .exit)) (now (body .exit))) n) ⌝ }
+    ensures sent { λ r. ⌜ Sent (new (now («content_type» .entry)) (now (content .entry)) (lengths (bothLent emptyMessage (now (head .entry)) (now (body .entry))))) (lengths (bothLent emptyMessage (now (head .entry)) (now (body .entry)))) (callsIn (now (script .entry))) (bothLent emptyMessage (now (head .entry)) (now (body .entry))) (now (head .exit)) (now (body .exit)) (now (out .entry)) (now (out .exit)) r ⌝ }
 {
     let made = new_and_run(content_type, content, script, head, body);
     if made.number != 0 {
