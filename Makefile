@@ -2,7 +2,7 @@
 .PHONY: prove show test examples compare bench format library calls gateway notice rt cargo
 
 # More jobs than a machine of two cores has: crates of one level, and edits, wait for the slowest among them.
-export RT_JOBS ?= 8
+export RT_JOBS ?= 4
 
 prove: rt
 	@rt prove
