@@ -113,50 +113,59 @@ fn around(name: &[u8], before: &[u8], s: &[u8], n: usize, behind: &[u8]) {
     limit(name, before, s, n + 1, behind);
 }
 
-fn refusals() {
+// Header lines, over a content section that is sound.
+fn lines(name: &[u8], headers: &[u8]) {
+    notice(name, headers, b"Content-type: text/plain");
+}
+
+fn texts_refused() {
     read(b"2", b"");
     read(
         b"3",
         b"Hi\r\n\r\nTo: a\r\n\r\nContent-type: text/plain\r\n\r\nHi",
     );
-    notice(b"4", b"To", b"Content-type: text/plain");
-    notice(b"5", b"To: \\q", b"Content-type: text/plain");
-    notice(b"6", b": a", b"Content-type: text/plain");
-    notice(b"8", b"T\to: a", b"Content-type: text/plain");
-    notice(b"9", b"a=b: c", b"Content-type: text/plain");
+}
+
+fn lines_refused() {
+    lines(b"4", b"To");
+    lines(b"5", b"To: \\q");
+    lines(b"6", b": a");
+    lines(b"8", b"T\to: a");
+    lines(b"9", b"a=b: c");
     notice(b"11", b"To: a", b"ID: a\tb");
-    notice(b"12", b"To;=x: a", b"Content-type: text/plain");
-    notice(b"14", b"To;a\"b=c: a", b"Content-type: text/plain");
-    notice(b"16", b"To;a=b\"c: a", b"Content-type: text/plain");
+}
+
+fn params_refused() {
+    lines(b"12", b"To;=x: a");
+    lines(b"14", b"To;a\"b=c: a");
+    lines(b"16", b"To;a=b\"c: a");
+}
+
+fn types_refused() {
     notice(b"17", b"To: a", b"Content-type:");
     notice(b"19", b"To: a", b"Content-type: a\x07b");
     read(b"24", b"\xFF");
 }
 
-fn limits() {
-    let text = b"\r\n\r\nContent-type: text/plain\r\n\r\nHi";
-    around(
-        b"7",
-        b"",
-        b"a",
-        128,
-        b": b\r\n\r\nContent-type: text/plain\r\n\r\nHi",
-    );
-    around(b"10", b"To: ", b"a", 1024, text);
-    around(
-        b"13",
-        b"To;",
-        b"a",
-        64,
-        b"=b: c\r\n\r\nContent-type: text/plain\r\n\r\nHi",
-    );
-    around(
-        b"15",
-        b"To;a=",
-        b"b",
-        256,
-        b": c\r\n\r\nContent-type: text/plain\r\n\r\nHi",
-    );
+// The limits of a header line: s stands in it n times.
+fn around_in_line(name: &[u8], before: &[u8], s: &[u8], n: usize, behind: &[u8]) {
+    let mut rest = [0u8; 64];
+    let mut at = add(&mut rest, 0, behind);
+    at = add(&mut rest, at, b"\r\n\r\nContent-type: text/plain\r\n\r\nHi");
+    around(name, before, s, n, first(&rest, at));
+}
+
+fn lengths_of_headers() {
+    around_in_line(b"7", b"", b"a", 128, b": b");
+    around_in_line(b"10", b"To: ", b"a", 1024, b"");
+}
+
+fn lengths_of_params() {
+    around_in_line(b"13", b"To;", b"a", 64, b"=b: c");
+    around_in_line(b"15", b"To;a=", b"b", 256, b": c");
+}
+
+fn length_of_type() {
     around(
         b"18",
         b"To: a\r\n\r\nContent-type: ",
@@ -164,14 +173,17 @@ fn limits() {
         256,
         b"\r\n\r\nHi",
     );
-    around(b"20", b"To: a", b"\r\nTo: a", 49, text);
-    // The last one replaces the one before it, and counts all the same.
-    around(
+}
+
+// The last one replaces the one before it, and counts all the same.
+fn counts() {
+    around_in_line(b"20", b"To: a", b"\r\nTo: a", 49, b"");
+    around_in_line(
         b"21",
         b"To;b=1;c=1;d=1;e=1;f=1;g=1;h=1;i=1;j=1",
         b";a=1",
         1,
-        b": c\r\n\r\nContent-type: text/plain\r\n\r\nHi",
+        b": c",
     );
     around(
         b"22",
@@ -293,12 +305,15 @@ fn bodies() {
     body_of(lines, &mut five);
 }
 
-fn specimens() {
+fn escapes() {
     with_value(b"P1 by a call", b"A\\B");
-    notice(b"P1", b"To: A\\\\B", b"Content-type: text/plain");
-    notice(b"P2", b"To: \\u0041", b"Content-type: text/plain");
-    notice(b"P3", b"To: \\u+041", b"Content-type: text/plain");
-    notice(b"P4", b"To: \\ud800", b"Content-type: text/plain");
+    lines(b"P1", b"To: A\\\\B");
+    lines(b"P2", b"To: \\u0041");
+    lines(b"P3", b"To: \\u+041");
+    lines(b"P4", b"To: \\ud800");
+}
+
+fn messages() {
     no_header();
     with_lang();
     with_value(b"P8", b"\t");
@@ -311,13 +326,20 @@ fn specimens() {
 }
 
 fn main() {
-    refusals();
-    limits();
+    texts_refused();
+    lines_refused();
+    params_refused();
+    types_refused();
+    lengths_of_headers();
+    lengths_of_params();
+    length_of_type();
+    counts();
     let text = b"Content-type: Message/CPIM\r\n\r\nTo: a\r\n\r\nContent-type: text/plain\r\n\r\nHi";
     stores(text);
     outputs(text);
     no_body_store(text);
     semicolon();
     bodies();
-    specimens();
+    escapes();
+    messages();
 }
