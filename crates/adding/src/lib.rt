@@ -8,6 +8,7 @@ use format::CpimHeader;
 use format::CpimMessage;
 use held::header_holds;
 use held::message_holds;
+use store::Notation;
 use utf8::is_utf8;
 use validate::validate_header_name;
 ghost use Rattle.format.specs.Lending.{headLent, numbersOf, HeaderAdded};
@@ -44,5 +45,14 @@ pub fn add_header_obj(
     }
     let from = 16 + h.valuelen;
     let to = h.size;
-    append_held(m, head, name, &store[16..from], h.params, &store[from..to])
+    append_held(
+        m,
+        head,
+        name,
+        &store[16..from],
+        Notation::Plain,
+        h.valuelen,
+        h.params,
+        &store[from..to],
+    )
 }

@@ -8,6 +8,7 @@ use format::Answer;
 use format::CpimMessage;
 use format::Numbers;
 use octets::copy_at;
+use store::Notation;
 ghost use mathlib.Core.Path.{_≡_};
 ghost use Prim.Native.Nat.{_+_, _-_, _^_, _≤_, min};
 ghost use lib.ListN.{length};
@@ -56,9 +57,27 @@ pub fn with_subject_lang(m: CpimMessage, head: &mut [u8], subject: &[u8], lang: 
         return refused(p, m);
     }
     let mut tail = [0u8; 276];
-    store::put_entry(&mut tail, 0, b"lang", lang, 0, b"");
+    store::put_entry(
+        &mut tail,
+        0,
+        b"lang",
+        lang,
+        Notation::Plain,
+        lang.len(),
+        0,
+        b"",
+    );
     let end = 20 + lang.len();
-    append_held(m, head, b"Subject", subject, 1, &tail[..end])
+    append_held(
+        m,
+        head,
+        b"Subject",
+        subject,
+        Notation::Plain,
+        subject.len(),
+        1,
+        &tail[..end],
+    )
 }
 
 pub fn with_cc(m: CpimMessage, head: &mut [u8], cc: &[u8]) -> Answer

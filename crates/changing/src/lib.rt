@@ -10,6 +10,7 @@ use placing::contents_of;
 use placing::headers_of;
 use placing::put_content;
 use placing::put_header;
+use store::Notation;
 use utf8::is_utf8;
 use validate::validate_content_header_value;
 use validate::validate_cpim_header_value;
@@ -25,6 +26,7 @@ ghost use Rattle.format.specs.Message.{Header, Message};
 ghost use Rattle.format.specs.Calls.{append, setHeader, addHeader, addContentHeader};
 ghost use Rattle.format.specs.Layout.{Holds};
 ghost use Rattle.format.specs.Lending.{headLent, lengths, numbersOf};
+ghost use Rattle.store.specs.Notations.{valueRead, Sized};
 ghost use Rattle.held.specs.Holding.{messageHolds};
 ghost use Rattle.placing.specs.Placing.{Does, Spelt};
 ghost use Rattle.changing.specs.Changing.{readiness};
@@ -69,13 +71,16 @@ pub fn append_held(
     m: CpimMessage,
     head: &mut [u8],
     name: &[u8],
-    value: &[u8],
+    text: &[u8],
+    notation: Notation,
+    size: usize,
     params: usize,
     tail: &[u8],
 ) -> Answer
     requires held { ⌜ messageHolds m (now head) ≡ true ⌝ }
-    requires bytes { ⌜ (length (now name) < 256) × (length (now value) < 65536) × (params < 256) × (length (now tail) < 65536) ⌝ }
-    ensures { λ r. ⌜ ((k : Message) (x : Header) → Holds (headLent m (now (head .entry))) k → Spelt x (now (name .entry)) (now (value .entry)) params (now (tail .entry)) → Does (headLent m (now (head .entry))) (headLent (r .message) (now (head .exit))) (numbersOf r) (append x (lengths (headLent m (now (head .entry)))) k)) ⌝ }
+    requires value { ⌜ Sized notation (now text) size ⌝ }
+    requires bytes { ⌜ (length (now name) < 256) × (size < 65536) × (params < 256) × (length (now tail) < 65536) ⌝ }
+    ensures { λ r. ⌜ ((k : Message) (x : Header) → Holds (headLent m (now (head .entry))) k → Spelt x (now (name .entry)) (valueRead notation (now (text .entry))) params (now (tail .entry)) → Does (headLent m (now (head .entry))) (headLent (r .message) (now (head .exit))) (numbersOf r) (append x (lengths (headLent m (now (head .entry)))) k)) ⌝ }
 {
     if MAX_HEADERS <= m.headers {
         return Answer {
@@ -85,7 +90,19 @@ pub fn append_held(
         };
     }
     let g = headers_of(m, head, name);
-    put_header(m, head, g.at + g.size, 0, 0, name, value, params, tail)
+    put_header(
+        m,
+        head,
+        g.at + g.size,
+        0,
+        0,
+        name,
+        text,
+        notation,
+        size,
+        params,
+        tail,
+    )
 }
 
 // A header of this name and value in the place of all of its name: name, 20 counted without what it replaces, value, 25.
@@ -110,7 +127,19 @@ pub fn set_held(m: CpimMessage, head: &mut [u8], name: &[u8], value: &[u8]) -> A
     if valued.number != 0 {
         return refused(valued, m);
     }
-    put_header(m, head, g.at, g.size, g.many, name, value, 0, b"")
+    put_header(
+        m,
+        head,
+        g.at,
+        g.size,
+        g.many,
+        name,
+        value,
+        Notation::Plain,
+        value.len(),
+        0,
+        b"",
+    )
 }
 
 // A header appended: value, name, 20, 25.
@@ -126,7 +155,7 @@ pub fn add_held(m: CpimMessage, head: &mut [u8], name: &[u8], value: &[u8]) -> A
     if n.number != 0 {
         return refused(n, m);
     }
-    append_held(m, head, name, value, 0, b"")
+    append_held(m, head, name, value, Notation::Plain, value.len(), 0, b"")
 }
 
 // A content header set: name, value, 22 even when replacing, 25.

@@ -9,6 +9,7 @@ use groups::find_group;
 use held::header_holds;
 use kinds::MAX_PARAMS_PER_HEADER;
 use octets::copy_at;
+use store::Notation;
 use store::replace;
 use utf8::is_utf8;
 use validate::validate_cpim_header_value;
@@ -81,7 +82,18 @@ fn put_param(
     ensures { λ r. ⌜ ((k : LoneHeader) (l g t : List Entry) → HoldsAlone h (now (store .entry)) k → Parted needEntry (k .params) l g t at old many → DoesAlone (aloneIn h (now (store .entry))) (aloneIn (r .header) (now (store .exit))) (headerNumbers r) (ifRoomAlone (length (now (store .entry))) (withParams k (l ++ (entry (now (name .entry)) (now (value .entry)) ∷ t))))) ⌝ }
 {
     let from = 16 + h.valuelen;
-    let done = replace(store, from + at, old, h.size, name, value, 0, b"");
+    let done = replace(
+        store,
+        from + at,
+        old,
+        h.size,
+        name,
+        value,
+        Notation::Plain,
+        value.len(),
+        0,
+        b"",
+    );
     if done.number != 0 {
         return refused(done, h);
     }

@@ -5,9 +5,9 @@ use mathlib.Core.Bool.{true, false, false≢true}
 use mathlib.Core.List.{List, []}
 use mathlib.Core.Option.{Option, none, some}
 use native.Mathlib.Omega.{arith}
-use lib.ListN.{length, take, drop}
-use lib.Seq.{take-all, take-at}
-use Rattle.format.specs.Bytes.{Bytes, backslash, upTo, pasted}
+use lib.ListN.{length}
+use lib.Seq.{take-all}
+use Rattle.format.specs.Bytes.{Bytes, backslash, upTo}
 use Rattle.format.specs.Escaping.{unescape}
 use Rattle.format.specs.Limits.{maxValue}
 use Rattle.format.specs.Refusals.{refused, badEscape, valueTooLong, numbers, table, _carrying_, _>>_, _>>=_}
@@ -23,7 +23,6 @@ use Rattle.format.specs.declared.Answer.{Answer}
 use Rattle.format.proofs.Steps.{then-bind, atMost-passed}
 use Rattle.format.proofs.Answers.{carried}
 use Rattle.format.proofs.Escaping.Unescape.{behind-nil}
-use Rattle.octets.proofs.Paste.{pasted-start}
 use Rattle.unescape.specs.Reads.{measured, valueOf}
 use Rattle.unescape.specs.declared.Unescaped.{Unescaped}
 use Rattle.unescape.proofs.Stretches.{read-end}
@@ -58,10 +57,6 @@ module _ (o : Option Bytes) (u : Unescaped) (e : u ≡ measured o) where
       go : (p : Option Bytes) → measured p .len ≡ length (valueOf p)
       go none = refl
       go (some v) = refl
-
--- what was written to the room's start
-pub written : (v room after : Bytes) (n : ℕ) → after ≡ pasted 0 v room → n ≡ length v → take n after ≡ v
-written v room after n e l = ap (take n) (e ∙ pasted-start v room) ∙ take-at v (drop (length v) room) n (sym l)
 
 -- The answer by what the text reads as.
 module _ (name : Bytes) (ps : List Entry) (stores : Stores) (k : Message) (o : Option Bytes) where
@@ -103,12 +98,12 @@ module _ (m : CpimMessage) (head name : Bytes) (ps : List Entry) (k : Message) (
         → Does (headLent m head) (headLent (r .message) head) (numbersOf r) (appendRead name (checkedValue o) ps (lengths (headLent m head)) k)
     refused-long r n e a z = checked (headLent (r .message) head) (numbersOf r) (handed-on m head r n (headerValue v) _ e a z)
 
-    -- appended; the value, and the parameters' bytes, are spelt out where they stand
-    pub read-appended : (r : CpimMessage) (after : Bytes) (n : Numbers) (value tail : Bytes) (params : ℕ) → length v ≤ maxValue → v ≡ value → Tail ps params tail
-        → ((x : Header) → Spelt x name value params tail → Does (headLent m head) (headLent r after) n (append x (lengths (headLent m head)) k))
+    -- appended; the parameters' bytes are spelt out where they stand
+    pub read-appended : (r : CpimMessage) (after : Bytes) (n : Numbers) (tail : Bytes) (params : ℕ) → length v ≤ maxValue → Tail ps params tail
+        → ((x : Header) → Spelt x name v params tail → Does (headLent m head) (headLent r after) n (append x (lengths (headLent m head)) k))
         → Does (headLent m head) (headLent r after) n (appendRead name (checkedValue o) ps (lengths (headLent m head)) k)
     unfolding headerValue
-    read-appended r after n value tail params short e t does =
+    read-appended r after n tail params short t does =
         checked (headLent r after) n
         (does-passed l (headLent r after) n (headerValue v) _ (atMost-passed maxValue valueTooLong (length v) short)
-        (does (with-value name ps (lengths l) k o v) (record { name-is = refl; value-is = e; params-are = t .many-are; tail-is = t .bytes-are })))
+        (does (with-value name ps (lengths l) k o v) (record { name-is = refl; value-is = refl; params-are = t .many-are; tail-is = t .bytes-are })))

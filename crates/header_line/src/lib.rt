@@ -9,8 +9,8 @@ use format::CpimHeader;
 use format::CpimMessage;
 use format::HeaderAnswer;
 use params::read_params;
+use store::Notation;
 use trimming::trim;
-use unescape::unescape_header_value;
 use unescape::unescaped_len;
 use validate::MAX_HEADER_VALUE_LENGTH;
 use validate::validate_cpim_header_value;
@@ -56,7 +56,7 @@ fn scan_left(left: &[u8], stop: usize, name: &[u8], room: &mut [u8]) -> HeaderAn
     read_params(left, stop, room)
 }
 
-// A header whose value has escapes, read into the value's room: 5, 10, 20, 25.
+// A header whose value has escapes, unescaped straight into the store: 5, 10, 20, 25.
 fn append_escaped(
     m: CpimMessage,
     head: &mut [u8],
@@ -64,11 +64,9 @@ fn append_escaped(
     text: &[u8],
     params: usize,
     tail: &[u8],
-    value: &mut [u8],
 ) -> Answer
     requires held { ⌜ messageHolds m (now head) ≡ true ⌝ }
     requires bytes { ⌜ (length (now name) < 256) × (params < 256) × (length (now tail) < 65536) ⌝ }
-    requires scratch { ⌜ 1024 ≤ length (now value) ⌝ }
     ensures { λ r. ⌜ ((k : Message) (ps : List Entry) → Holds (headLent m (now (head .entry))) k → Tail ps params (now (tail .entry)) → Does (headLent m (now (head .entry))) (headLent (r .message) (now (head .exit))) (numbersOf r) (appendRead (now (name .entry)) (checkedValue (unescape (now (text .entry)))) ps (lengths (headLent m (now (head .entry)))) k)) ⌝ }
 {
     let read = unescaped_len(text);
@@ -87,11 +85,10 @@ fn append_escaped(
             message: m,
         };
     }
-    unescape_header_value(value, 0, text);
-    append_held(m, head, name, &value[..n], params, tail)
+    append_held(m, head, name, text, Notation::Escaped, n, params, tail)
 }
 
-// A header of a name and parameters, its value read from a text: without a backslash it is the text itself, and is not copied.
+// A header of a name and parameters, its value read from a text: without a backslash it is the text itself.
 fn append_read(
     m: CpimMessage,
     head: &mut [u8],
@@ -99,35 +96,36 @@ fn append_read(
     text: &[u8],
     params: usize,
     tail: &[u8],
-    value: &mut [u8],
 ) -> Answer
     requires held { ⌜ messageHolds m (now head) ≡ true ⌝ }
     requires bytes { ⌜ (length (now name) < 256) × (params < 256) × (length (now tail) < 65536) ⌝ }
-    requires scratch { ⌜ 1024 ≤ length (now value) ⌝ }
     ensures { λ r. ⌜ ((k : Message) (ps : List Entry) → Holds (headLent m (now (head .entry))) k → Tail ps params (now (tail .entry)) → Does (headLent m (now (head .entry))) (headLent (r .message) (now (head .exit))) (numbersOf r) (appendRead (now (name .entry)) (checkedValue (unescape (now (text .entry)))) ps (lengths (headLent m (now (head .entry)))) k)) ⌝ }
 {
     if find_byte(text, b'\\') < text.len() {
-        return append_escaped(m, head, name, text, params, tail, value);
+        return append_escaped(m, head, name, text, params, tail);
     }
     let v = validate_cpim_header_value(text);
     if v.number != 0 {
         return refused(v, m);
     }
-    append_held(m, head, name, text, params, tail)
+    append_held(
+        m,
+        head,
+        name,
+        text,
+        Notation::Plain,
+        text.len(),
+        params,
+        tail,
+    )
 }
 
 // A header line: first colon or 4; left of it, split at `;`, the name, trimmed and checked, and the parameters; right of it the value,
 // trimmed, unescaped (5), 10; then 20, then 25.
-pub fn read_header_line(
-    line: &[u8],
-    m: CpimMessage,
-    head: &mut [u8],
-    params: &mut [u8],
-    value: &mut [u8],
-) -> Answer
+pub fn read_header_line(line: &[u8], m: CpimMessage, head: &mut [u8], params: &mut [u8]) -> Answer
     requires held { ⌜ messageHolds m (now head) ≡ true ⌝ }
     requires text { ⌜ isUtf8 (now line) ≡ true ⌝ }
-    requires scratch { ⌜ (3376 ≤ length (now params)) × (1024 ≤ length (now value)) ⌝ }
+    requires scratch { ⌜ 3376 ≤ length (now params) ⌝ }
     ensures { λ r. ⌜ ((k : Message) → Holds (headLent m (now (head .entry))) k → Does (headLent m (now (head .entry))) (headLent (r .message) (now (head .exit))) (numbersOf r) (readLine readHeader (lengths (headLent m (now (head .entry)))) (now (line .entry)) k)) ⌝ }
 {
     let colon = find_byte(line, b':');
@@ -159,6 +157,5 @@ pub fn read_header_line(
         trim(&line[next..]),
         h.params,
         &params[16..size],
-        value,
     )
 }

@@ -5,6 +5,7 @@ use format::Answer;
 use format::CpimMessage;
 use groups::Group;
 use groups::find_group;
+use store::Notation;
 use store::replace;
 ghost use mathlib.Core.Path.{_≡_};
 ghost use mathlib.Core.Bool.{true};
@@ -16,6 +17,7 @@ ghost use Rattle.format.specs.Calls.{ifRoom, withHeaders, withContents};
 ghost use Rattle.format.specs.Layout.{Holds};
 ghost use Rattle.format.specs.Lending.{headLent, numbersOf};
 ghost use Rattle.groups.specs.Groups.{Grouped};
+ghost use Rattle.store.specs.Notations.{valueRead, Sized};
 ghost use Rattle.store.specs.Spliced.{Parted};
 ghost use Rattle.held.specs.Holding.{messageHolds};
 ghost use Rattle.placing.specs.Placing.{Does, Spelt};
@@ -47,17 +49,31 @@ pub fn put_header(
     old: usize,
     many: usize,
     name: &[u8],
-    value: &[u8],
+    text: &[u8],
+    notation: Notation,
+    size: usize,
     params: usize,
     tail: &[u8],
 ) -> Answer
     requires held { ⌜ messageHolds m (now head) ≡ true ⌝ }
     requires within { ⌜ (at + old ≤ m .headerlen) × (many ≤ m .headers) ⌝ }
-    requires bytes { ⌜ (length (now name) < 256) × (length (now value) < 65536) × (params < 256) × (length (now tail) < 65536) ⌝ }
-    ensures { λ r. ⌜ ((k : Message) (l g h : List Header) (x : Header) → Holds (headLent m (now (head .entry))) k → Parted needHeader (k .headers) l g h at old many → Spelt x (now (name .entry)) (now (value .entry)) params (now (tail .entry)) → Does (headLent m (now (head .entry))) (headLent (r .message) (now (head .exit))) (numbersOf r) (ifRoom (length (now (head .entry))) (withHeaders k (l ++ (x ∷ h))))) ⌝ }
+    requires value { ⌜ Sized notation (now text) size ⌝ }
+    requires bytes { ⌜ (length (now name) < 256) × (size < 65536) × (params < 256) × (length (now tail) < 65536) ⌝ }
+    ensures { λ r. ⌜ ((k : Message) (l g h : List Header) (x : Header) → Holds (headLent m (now (head .entry))) k → Parted needHeader (k .headers) l g h at old many → Spelt x (now (name .entry)) (valueRead notation (now (text .entry))) params (now (tail .entry)) → Does (headLent m (now (head .entry))) (headLent (r .message) (now (head .exit))) (numbersOf r) (ifRoom (length (now (head .entry))) (withHeaders k (l ++ (x ∷ h))))) ⌝ }
 {
     let used = 256 + (m.headerlen + m.contentlen);
-    let n = replace(head, 256 + at, old, used, name, value, params, tail);
+    let n = replace(
+        head,
+        256 + at,
+        old,
+        used,
+        name,
+        text,
+        notation,
+        size,
+        params,
+        tail,
+    );
     if n.number != 0 {
         return Answer {
             number: n.number,
@@ -65,14 +81,14 @@ pub fn put_header(
             message: m,
         };
     }
-    let size = 16 + (name.len() + (value.len() + tail.len()));
+    let entry = 16 + (name.len() + (size + tail.len()));
     Answer {
         number: n.number,
         carried: n.carried,
         message: CpimMessage {
             typelen: m.typelen,
             headers: m.headers - many + 1,
-            headerlen: m.headerlen - old + size,
+            headerlen: m.headerlen - old + entry,
             contents: m.contents,
             contentlen: m.contentlen,
             bodylen: m.bodylen,
@@ -97,7 +113,18 @@ pub fn put_content(
 {
     let from = 256 + m.headerlen;
     let used = 256 + (m.headerlen + m.contentlen);
-    let n = replace(head, from + at, old, used, name, value, 0, b"");
+    let n = replace(
+        head,
+        from + at,
+        old,
+        used,
+        name,
+        value,
+        Notation::Plain,
+        value.len(),
+        0,
+        b"",
+    );
     if n.number != 0 {
         return Answer {
             number: n.number,

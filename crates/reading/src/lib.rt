@@ -100,8 +100,7 @@ fn read_parts(
     }
     let m = start(head);
     let mut params = [0u8; 3376];
-    let mut value = [0u8; 1024];
-    let h = read_headers(&text[start2..end2], m, head, &mut params, &mut value);
+    let h = read_headers(&text[start2..end2], m, head, &mut params);
     if h.number != 0 {
         return h;
     }

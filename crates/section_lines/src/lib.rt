@@ -20,16 +20,10 @@ ghost use Rattle.placing.specs.Placing.{Does};
 ghost use Rattle.section_lines.specs.Lines.{LinesRead};
 
 // A line of the header section; an empty one is skipped.
-fn header_line(
-    line: &[u8],
-    m: CpimMessage,
-    head: &mut [u8],
-    params: &mut [u8],
-    value: &mut [u8],
-) -> Answer
+fn header_line(line: &[u8], m: CpimMessage, head: &mut [u8], params: &mut [u8]) -> Answer
     requires held { ⌜ messageHolds m (now head) ≡ true ⌝ }
     requires text { ⌜ isUtf8 (now line) ≡ true ⌝ }
-    requires scratch { ⌜ (3376 ≤ length (now params)) × (1024 ≤ length (now value)) ⌝ }
+    requires scratch { ⌜ 3376 ≤ length (now params) ⌝ }
     ensures { λ r. ⌜ ((k : Message) → Holds (headLent m (now (head .entry))) k → Does (headLent m (now (head .entry))) (headLent (r .message) (now (head .exit))) (numbersOf r) (readHeaderLine readHeader (lengths (headLent m (now (head .entry)))) (now (line .entry)) k)) ⌝ }
 {
     if line.len() == 0 {
@@ -39,20 +33,14 @@ fn header_line(
             message: m,
         };
     }
-    read_header_line(line, m, head, params, value)
+    read_header_line(line, m, head, params)
 }
 
 // The lines of the header section, up to the first that is refused.
-pub fn read_headers(
-    section: &[u8],
-    m: CpimMessage,
-    head: &mut [u8],
-    params: &mut [u8],
-    value: &mut [u8],
-) -> Answer
+pub fn read_headers(section: &[u8], m: CpimMessage, head: &mut [u8], params: &mut [u8]) -> Answer
     requires held { ⌜ messageHolds m (now head) ≡ true ⌝ }
     requires text { ⌜ isUtf8 (now section) ≡ true ⌝ }
-    requires scratch { ⌜ (3376 ≤ length (now params)) × (1024 ≤ length (now value)) ⌝ }
+    requires scratch { ⌜ 3376 ≤ length (now params) ⌝ }
     ensures { λ r. ⌜ ((k : Message) → Holds (headLent m (now (head .entry))) k → LinesRead (headLent (r .message) (now (head .exit))) (numbersOf r) (each (readHeaderLine readHeader (lengths (headLent m (now (head .entry))))) (lines (now (section .entry))) k)) ⌝ }
 {
     let crlf = crlf_lines(section);
@@ -61,7 +49,7 @@ pub fn read_headers(
     loop {
         let piece = cut_line(&section[at..], crlf);
         let end = at + piece.end;
-        let r = header_line(&section[at..end], so_far, head, params, value);
+        let r = header_line(&section[at..end], so_far, head, params);
         if r.number != 0 {
             return r;
         }

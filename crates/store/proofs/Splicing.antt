@@ -21,19 +21,20 @@ pub entry-length : (n v : Bytes) (k : ℕ) (t : Bytes) → length (entryBytes n 
 unfolding entryBytes fixed
 entry-length n v k t = simp length-append (omega arith)
 
--- the four parts of an entry
-pub entry-pasted : (at : ℕ) (n v : Bytes) (k : ℕ) (t d : Bytes) → at ≤ length d
-    → pasted (at + 16 + length n + length v) t (pasted (at + 16 + length n) v (pasted (at + 16) n (pasted at (fixed (length n) (length v) k (length t)) d)))
+-- the four parts of an entry, its value of this size
+pub entry-pasted : (at : ℕ) (n v : Bytes) (size k : ℕ) (t d : Bytes) → size ≡ length v → at ≤ length d
+    → pasted (at + 16 + length n + size) t (pasted (at + 16 + length n) v (pasted (at + 16) n (pasted at (fixed (length n) size k (length t)) d)))
     ≡ pasted at (entryBytes n v k t) d
 unfolding entryBytes fixed
-entry-pasted at n v k t d h =
+entry-pasted at n v size k t d e h =
     let f = fixed (length n) (length v) k (length t) in
     let two = pasted-pasted at f n d h in
     let three : pasted (at + 16 + length n) v (pasted at (f ++ n) d) ≡ pasted at ((f ++ n) ++ v) d =
     ap (λ (i : ℕ). pasted i v (pasted at (f ++ n) d)) (omega (arith, length-append f n)) ∙ pasted-pasted at (f ++ n) v d h in
     let four : pasted (at + 16 + length n + length v) t (pasted at ((f ++ n) ++ v) d) ≡ pasted at (((f ++ n) ++ v) ++ t) d =
     ap (λ (i : ℕ). pasted i t (pasted at ((f ++ n) ++ v) d)) (omega (arith, length-append f n, length-append (f ++ n) v)) ∙ pasted-pasted at ((f ++ n) ++ v) t d h in
-    ap (λ (x : Bytes). pasted (at + 16 + length n + length v) t (pasted (at + 16 + length n) v x)) two
+    ap (λ (z : ℕ). pasted (at + 16 + length n + z) t (pasted (at + 16 + length n) v (pasted (at + 16) n (pasted at (fixed (length n) z k (length t)) d)))) e
+    ∙ ap (λ (x : Bytes). pasted (at + 16 + length n + length v) t (pasted (at + 16 + length n) v x)) two
     ∙ ap (pasted (at + 16 + length n + length v) t) three
     ∙ four
     ∙ ap (λ (x : Bytes). pasted at x d) (append-assoc (f ++ n) v t ∙ append-assoc f n (v ++ t))

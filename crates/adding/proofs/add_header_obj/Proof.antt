@@ -3,7 +3,7 @@ use mathlib.Core.Path.{_≡_, refl, sym, _∙_}
 use mathlib.Core.Bool.{true, _&&_}
 use Prim.Native.Nat.{_+_, _-_}
 use native.Mathlib.Omega.{arith}
-use lib.ListN.{drop, length-take}
+use lib.ListN.{drop, length-take, length-drop}
 use borrow.Author.Needs.{needs}
 use borrow.Author.Tests.{not-true, not-false}
 use Rattle.format.specs.Validators.{headerName}
@@ -124,14 +124,19 @@ append-held-requires c κs =
     let h = args .h in
     let name = args .name .now in
     let store = args .store .now in
-    let small = short h store (header-there (c .before .before .before .before .before .before .before)) in
+    let there = header-there (c .before .before .before .before .before .before .before) in
+    let small = short h store there in
+    let within = bounds h store there in
     let n = zero-passes (headerName name) _ (c .before .before .before .before .before .before .before .before .validate-header-name .ensures) (c .before .before .before .before .if3 .left) in (
       and-left (messageHolds (args .m) (args .head .now)) (headerHolds h store) (both-there (c .before .before .before .before .before .before .before)),
       (
-        omega (arith, name-short name n),
-        omega (arith, small .value, length-take (16 + h .valuelen - 16) (drop 16 store)),
-        omega (arith, small .params),
-        omega (arith, small .tail, length-take (h .size - (16 + h .valuelen)) (drop (16 + h .valuelen) store)),
+        (refl, omega (arith, within .value, within .used, length-take (16 + h .valuelen - 16) (drop 16 store), length-drop 16 store)),
+        (
+          omega (arith, name-short name n),
+          omega (arith, small .value),
+          omega (arith, small .params),
+          omega (arith, small .tail, length-take (h .size - (16 + h .valuelen)) (drop (16 + h .valuelen) store)),
+        ),
       ),
     )
 

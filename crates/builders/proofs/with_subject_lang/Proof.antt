@@ -93,7 +93,7 @@ put-entry-requires c κs =
     let v = args .subject .now in
     let l = args .lang .now in
     let param = zero-passes (paramValue l) _ (c .before .before .before .before .before .validate-param-value .ensures) (c .before .before .before .if3 .left) in
-    (omega (arith, param-short l param), (omega arith, omega (arith, param-short l param), omega arith, omega arith))
+    ((refl, refl), (omega (arith, param-short l param), (omega arith, omega (arith, param-short l param), omega arith, omega arith)))
 
 add-end : tie.Need-add-end
 add-end c =
@@ -138,7 +138,7 @@ append-held-requires c κs =
     let l = args .lang .now in
     let value = zero-passes (headerValue v) _ (c .before .before .before .before .before .before .before .before .before .before .before .before .before .validate-cpim-header-value .ensures) (c .before .before .before .before .before .before .before .before .before .before .before .if2 .left) in
     let param = zero-passes (paramValue l) _ (c .before .before .before .before .before .before .before .before .before .before .validate-param-value .ensures) (c .before .before .before .before .before .before .before .before .if3 .left) in
-    (call-held (with-subject-lang v l) m head v l _ refl (two-texts (isUtf8 v) (isUtf8 l)) (c .before .before .before .before .before .before .before .before .before .before .before .before .before .before .before .before .ready .ensures) (c .before .before .before .before .before .before .before .before .before .before .before .before .before .before .if1 .left), (omega arith, omega (arith, value-short v value), omega arith, simp length-take (omega (arith, param-short l param))))
+    (call-held (with-subject-lang v l) m head v l _ refl (two-texts (isUtf8 v) (isUtf8 l)) (c .before .before .before .before .before .before .before .before .before .before .before .before .before .before .before .before .ready .ensures) (c .before .before .before .before .before .before .before .before .before .before .before .before .before .before .if1 .left), ((refl, refl), (omega arith, omega (arith, value-short v value), omega arith, simp length-take (omega (arith, param-short l param)))))
 
 same-length-4 : tie.Need-same-length-4
 same-length-4 c = search needs

@@ -59,7 +59,7 @@ append-held-requires c κs =
     let value = start .args .value .now in
     let v = zero-passes (headerValue value) _ (c .before .before .before .before .before .before .before .validate-cpim-header-value .ensures) (c .before .before .before .before .if1 .left) in
     let n = zero-passes (headerName name) _ (c .before .before .before .before .before .before .validate-header-name .ensures) (c .before .before .if2 .left) in
-    (start .pre, (omega (arith, name-short name n), omega (arith, value-short value v), omega arith, omega arith))
+    (start .pre, ((refl, refl), (omega (arith, name-short name n), omega (arith, value-short value v), omega arith, omega arith)))
 
 same-length : tie.Need-same-length
 same-length c = search needs

@@ -13,8 +13,8 @@ use Rattle.changing.proofs.Groups.{too-many, appended, headers-fit}
 use Rattle.changing.proofs.append_held.Statement.{statement}
 use Rattle.changing.proofs.append_held.Tie as tie
 
-add-t9 : tie.Need-add-t9
-add-t9 c =
+add-t11 : tie.Need-add-t11
+add-t11 c =
     let start = c .before .before .before .before .before .before .before in
     let m = start .args .m in
     let head = start .args .head .now in
@@ -71,7 +71,7 @@ pub append-held-spec : {M : Type 1} → statement M
 append-held-spec =
     tie.close
     (tie.spec
-    add-t9
+    add-t11
     returns
     headers-of-requires
     add-put-header

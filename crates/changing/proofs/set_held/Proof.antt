@@ -121,7 +121,7 @@ put-header-requires c κs =
     let n = zero-passes (headerName name) _ (c .before .before .before .before .before .before .before .before .before .before .before .before .validate-header-name .ensures) (c .before .before .before .before .before .if1 .left) in
     let v = zero-passes (headerValue value) _ (c .before .before .before .before .before .before .before .validate-cpim-header-value .ensures) (c .before .before .if3 .left) in
     let fit = headers-fit m head name _ _ _ (start .pre) (c .before .before .before .before .before .before .before .before .before .before .headers-of .ensures) in
-    (start .pre, (fit, (omega (arith, name-short name n), omega (arith, value-short value v), omega arith, omega arith)))
+    (start .pre, (fit, ((refl, refl), (omega (arith, name-short name n), omega (arith, value-short value v), omega arith, omega arith))))
 
 same-length-4 : tie.Need-same-length-4
 same-length-4 c = search needs

@@ -27,7 +27,7 @@ replace-requires : tie.Need-replace-requires
 replace-requires c κs =
     let start = c .before .before .before .before .before .before in
     let within = bounds (start .args .h) (start .args .store .now) (start .pre .0) in
-    ((omega (arith, start .pre .1 .0), within .used), (start .pre .1 .1 .0, start .pre .1 .1 .1, omega arith, omega arith))
+    ((omega (arith, start .pre .1 .0), within .used), ((refl, refl), (start .pre .1 .1 .0, start .pre .1 .1 .1, omega arith, omega arith)))
 
 refused-requires : tie.Need-refused-requires
 refused-requires c κs = search needs
@@ -45,23 +45,23 @@ returns c =
 sub-t13 : tie.Need-sub-t13
 sub-t13 c = omega (arith, c .before .before .before .before .before .before .before .before .before .before .before .before .pre .1 .0 .1)
 
-add-t17 : tie.Need-add-t17
-add-t17 c =
+add-t15 : tie.Need-add-t15
+add-t15 c =
     let start = c .before .before .before .before .before .before .before .before .before .before .before .before in
     let within = bounds (start .args .h) (start .args .store .now) (start .pre .0) in
     omega (arith, within .params, start .pre .1 .0)
 
-sub-t18 : tie.Need-sub-t18
-sub-t18 c = omega (arith, c .before .before .before .before .before .before .before .before .before .before .before .before .before .pre .1 .0 .0)
-
-add-t21 : tie.Need-add-t21
-add-t21 c = search needs
+sub-t19 : tie.Need-sub-t19
+sub-t19 c = omega (arith, c .before .before .before .before .before .before .before .before .before .before .before .before .before .pre .1 .0 .0)
 
 add-t22 : tie.Need-add-t22
 add-t22 c = search needs
 
 add-t23 : tie.Need-add-t23
-add-t23 c =
+add-t23 c = search needs
+
+add-t24 : tie.Need-add-t24
+add-t24 c =
     let start = c .before .before .before .before .before .before .before .before .before .before .before .before .before in
     let within = bounds (start .args .h) (start .args .store .now) (start .pre .0) in
     omega (arith, within .used, start .good, start .pre .1)
@@ -88,10 +88,10 @@ put-param-spec =
     same-length
     returns
     sub-t13
-    add-t17
-    sub-t18
-    add-t21
+    add-t15
+    sub-t19
     add-t22
     add-t23
+    add-t24
     same-length-2
     returns-2)

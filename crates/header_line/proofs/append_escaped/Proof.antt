@@ -1,13 +1,12 @@
 -- `header_line::append_escaped` meets its contract. Assumes nothing.
 use mathlib.Core.Path.{sym, ap, _∙_}
 use native.Mathlib.Omega.{arith}
-use lib.ListN.{length-take}
 use borrow.Author.Needs.{needs}
 use borrow.Author.Tests.{not-true, not-false}
 use Rattle.format.specs.Escaping.{unescape}
 use Rattle.unescape.specs.Reads.{valueOf}
 use Rattle.unescape.specs.declared.Unescaped.{Unescaped}
-use Rattle.header_line.proofs.Values.{not-read, is-read, length-is, written, unread, too-long, read-appended}
+use Rattle.header_line.proofs.Values.{not-read, is-read, length-is, unread, too-long, read-appended}
 use Rattle.header_line.proofs.append_escaped.Statement.{statement}
 use Rattle.header_line.proofs.append_escaped.Tie as tie
 
@@ -16,52 +15,41 @@ unescaped-len-requires c κs = search needs
 
 returns : tie.Need-returns
 returns c =
-    let args = c .before .before .before .before .before .before .before .before .args in
+    let args = c .before .before .before .before .before .before .before .args in
     let o = unescape (args .text .now) in
     λ k ps held t. unread (args .m) (args .head .now) (args .name .now) ps k o
     (not-read o _ (c .before .before .unescaped-len .ensures) (not-true _ (c .if1 .taken)))
 
 returns-2 : tie.Need-returns-2
 returns-2 c =
-    let args = c .before .before .before .before .before .before .before .before .before .args in
+    let args = c .before .before .before .before .before .before .before .before .args in
     let o = unescape (args .text .now) in
     let u = c .before .before .before .unescaped-len in
     λ k ps held t. too-long (args .m) (args .head .now) (args .name .now) ps k o (valueOf o)
     (is-read o _ (u .ensures) (not-false _ (c .before .if1 .left))) (u .result .len) (length-is o _ (u .ensures)) (omega arith) (omega arith)
 
-unescape-header-value-requires : tie.Need-unescape-header-value-requires
-unescape-header-value-requires c κs =
-    let start = c .before .before .before .before .before .before .before .before .before .before in
-    let o = unescape (start .args .text .now) in
-    let u = c .before .before .before .before .unescaped-len in
-    (ap (λ (w : Unescaped). w .ok) (sym (u .ensures)) ∙ not-false _ (c .before .before .if1 .left), omega (arith, length-is o _ (u .ensures)))
-
-slice-reshare-prefix-append-held : tie.Need-slice-reshare-prefix-append-held
-slice-reshare-prefix-append-held c = omega arith
-
-slice-aggregate-append-held : tie.Need-slice-aggregate-append-held
-slice-aggregate-append-held c = omega (arith, length-take (c .before .before .before .before .before .before .before .before .before .unescaped-len .result .len) (c .before .before .before .before .unescape-header-value .last .0))
-
 append-held-requires : tie.Need-append-held-requires
 append-held-requires c κs =
-    let start = c .before .before .before .before .before .before .before .before .before .before .before .before .before .before .before in
-    (start .pre .0, (start .pre .1 .0 .0, omega (arith, length-take (c .before .before .before .before .before .before .before .before .before .unescaped-len .result .len) (c .before .before .before .before .unescape-header-value .last .0)), start .pre .1 .0 .1, start .pre .1 .0 .2))
+    let start = c .before .before .before .before .before .before .before .before .before in
+    let o = unescape (start .args .text .now) in
+    let u = c .before .before .before .before .unescaped-len in (
+      start .pre .0,
+      (
+        (ap (λ (w : Unescaped). w .ok) (sym (u .ensures)) ∙ not-false _ (c .before .before .if1 .left), length-is o _ (u .ensures)),
+        (start .pre .1 .0, omega arith, start .pre .1 .1, start .pre .1 .2),
+      ),
+    )
 
 same-length : tie.Need-same-length
 same-length c = search needs
 
-same-length-2 : tie.Need-same-length-2
-same-length-2 c = search needs
-
 returns-3 : tie.Need-returns-3
 returns-3 c =
-    let args = c .before .before .before .before .before .before .before .before .before .before .before .before .before .before .before .before .before .before .args in
+    let args = c .before .before .before .before .before .before .before .before .before .before .before .before .args in
     let o = unescape (args .text .now) in
-    let u = c .before .before .before .before .before .before .before .before .before .before .before .before .unescaped-len in
-    let n = length-is o _ (u .ensures) in
+    let u = c .before .before .before .before .before .before .before .unescaped-len in
     λ k ps held t. read-appended (args .m) (args .head .now) (args .name .now) ps k o (valueOf o)
-    (is-read o _ (u .ensures) (not-false _ (c .before .before .before .before .before .before .before .before .before .before .if1 .left))) _ _ _ _ _ _ (omega (arith, n))
-    (sym (written (valueOf o) (args .value .now) _ (u .result .len) (c .before .before .before .before .before .before .before .unescape-header-value .ensures .1) n)) t
+    (is-read o _ (u .ensures) (not-false _ (c .before .before .before .before .before .if1 .left))) _ _ _ _ _ (omega (arith, length-is o _ (u .ensures))) t
     (λ x s. c .before .before .append-held .ensures k x held s)
 
 pub append-escaped-spec : {M : Type 1} → statement M
@@ -71,10 +59,6 @@ append-escaped-spec =
     unescaped-len-requires
     returns
     returns-2
-    unescape-header-value-requires
-    slice-reshare-prefix-append-held
-    slice-aggregate-append-held
     append-held-requires
     same-length
-    same-length-2
     returns-3)

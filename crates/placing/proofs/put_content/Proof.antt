@@ -49,7 +49,7 @@ replace-requires c κs =
     let m = start .args .m in
     let head = start .args .head .now in
     let within = bounds m head (start .pre .0) in
-    ((omega (arith, within .used, start .pre .1 .0), within .used), (start .pre .1 .1 .0, start .pre .1 .1 .1, omega arith, omega arith))
+    ((omega (arith, within .used, start .pre .1 .0), within .used), ((refl, refl), (start .pre .1 .1 .0, start .pre .1 .1 .1, omega arith, omega arith)))
 
 same-length : tie.Need-same-length
 same-length c = search needs
@@ -79,24 +79,24 @@ sub-t13 c =
     let within = bounds m head (start .pre .0) in
     omega (arith, start .pre .1 .0 .1)
 
-add-t20 : tie.Need-add-t20
-add-t20 c =
+add-t21 : tie.Need-add-t21
+add-t21 c =
     let start = c .before .before .before .before .before .before .before .before .before .before .before .before .before in
     let m = start .args .m in
     let head = start .args .head .now in
     let within = bounds m head (start .pre .0) in
     omega (arith, within .contents, start .pre .1 .0)
 
-sub-t19 : tie.Need-sub-t19
-sub-t19 c =
+sub-t17 : tie.Need-sub-t17
+sub-t17 c =
     let start = c .before .before .before .before .before .before .before .before .before .before .before .before .before .before in
     let m = start .args .m in
     let head = start .args .head .now in
     let within = bounds m head (start .pre .0) in
     omega (arith, start .pre .1 .0 .0)
 
-add-t21 : tie.Need-add-t21
-add-t21 c =
+add-t22 : tie.Need-add-t22
+add-t22 c =
     let start = c .before .before .before .before .before .before .before .before .before .before .before .before .before .before in
     let m = start .args .m in
     let head = start .args .head .now in
@@ -132,8 +132,8 @@ put-content-spec =
     add-size
     add-size-2
     sub-t13
-    add-t20
-    sub-t19
     add-t21
+    sub-t17
+    add-t22
     same-length-2
     returns-2)

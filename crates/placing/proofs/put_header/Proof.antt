@@ -3,6 +3,7 @@ use mathlib.Core.Path.{refl}
 use Prim.Native.Nat.{_-_}
 use native.Mathlib.Omega.{arith}
 use borrow.Author.Needs.{needs}
+use Rattle.store.specs.Notations.{valueRead}
 use Rattle.placing.proofs.Bounds.{bounds}
 use Rattle.placing.proofs.Putting.{header-put}
 use Rattle.placing.proofs.put_header.Statement.{statement}
@@ -50,45 +51,45 @@ returns c =
     let head = start .args .head .now in
     let within = bounds m head (start .pre .0) in
     let args = start .args in
-    λ k l g h x held parted spelt. header-put m m head _ _ k held (args .name .now) (args .value .now) (args .at) (args .old) (args .many)
+    λ k l g h x held parted spelt. header-put m m head _ _ k held (args .name .now) (valueRead (args .notation) (args .text .now)) (args .at) (args .old) (args .many)
     (args .params) (args .tail .now) l g h x parted spelt (c .before .before .before .before .replace .ensures .0) (c .before .before .before .before .replace .ensures .1)
     (λ _. refl) (λ z. absurd (c .if1 .taken z))
 
-add-size : tie.Need-add-size
-add-size c = search needs
+add-entry : tie.Need-add-entry
+add-entry c = search needs
 
-add-size-2 : tie.Need-add-size-2
-add-size-2 c = search needs
+add-entry-2 : tie.Need-add-entry-2
+add-entry-2 c = search needs
 
-add-size-3 : tie.Need-add-size-3
-add-size-3 c = search needs
+add-entry-3 : tie.Need-add-entry-3
+add-entry-3 c = search needs
 
-sub-t13 : tie.Need-sub-t13
-sub-t13 c =
+sub-t15 : tie.Need-sub-t15
+sub-t15 c =
     let start = c .before .before .before .before .before .before .before .before .before .before .before .before in
     let m = start .args .m in
     let head = start .args .head .now in
     let within = bounds m head (start .pre .0) in
     omega (arith, start .pre .1 .0 .1)
 
-add-t20 : tie.Need-add-t20
-add-t20 c =
+add-t21 : tie.Need-add-t21
+add-t21 c =
     let start = c .before .before .before .before .before .before .before .before .before .before .before .before in
     let m = start .args .m in
     let head = start .args .head .now in
     let within = bounds m head (start .pre .0) in
     omega (arith, within .headers, start .pre .1 .0)
 
-sub-t19 : tie.Need-sub-t19
-sub-t19 c =
+sub-t20 : tie.Need-sub-t20
+sub-t20 c =
     let start = c .before .before .before .before .before .before .before .before .before .before .before .before .before in
     let m = start .args .m in
     let head = start .args .head .now in
     let within = bounds m head (start .pre .0) in
     omega (arith, start .pre .1 .0 .0)
 
-add-t18 : tie.Need-add-t18
-add-t18 c =
+add-t19 : tie.Need-add-t19
+add-t19 c =
     let start = c .before .before .before .before .before .before .before .before .before .before .before .before .before in
     let m = start .args .m in
     let head = start .args .head .now in
@@ -105,9 +106,9 @@ returns-2 c =
     let head = start .args .head .now in
     let within = bounds m head (start .pre .0) in
     let args = start .args in
-    λ k l g h x held parted spelt. header-put m _ head _ _ k held (args .name .now) (args .value .now) (args .at) (args .old) (args .many)
+    λ k l g h x held parted spelt. header-put m _ head _ _ k held (args .name .now) (valueRead (args .notation) (args .text .now)) (args .at) (args .old) (args .many)
     (args .params) (args .tail .now) l g h x parted spelt (c .before .before .before .before .before .before .replace .ensures .0) (c .before .before .before .before .before .before .replace .ensures .1)
-    (λ z. absurd (z (c .before .before .if1 .left))) (λ _. refl)
+    (λ z. absurd (z (c .before .before .if1 .left))) (λ _. rw (start .pre .1 .1 .0 .1) refl)
 
 pub put-header-spec : {M : Type 1} → statement M
 put-header-spec =
@@ -119,12 +120,12 @@ put-header-spec =
     replace-requires
     same-length
     returns
-    add-size
-    add-size-2
-    add-size-3
-    sub-t13
-    add-t20
-    sub-t19
-    add-t18
+    add-entry
+    add-entry-2
+    add-entry-3
+    sub-t15
+    add-t21
+    sub-t20
+    add-t19
     same-length-2
     returns-2)

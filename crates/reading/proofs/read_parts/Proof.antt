@@ -61,29 +61,29 @@ kept-start : (c : tie.After-start) → length (c .start .last .0) ≡ length (c 
 kept-start c = c .start .kept .0
 
 headers-read : (c : tie.After-read-headers)
-    → LinesRead (headLent (c .read-headers .result .message) (c .read-headers .last .1 .1 .0)) (numbersOf (c .read-headers .result)) (each (readHeaderLine readHeader (lengths (lent-at (c .before .before .before .before .before .before .before .before .before .before .before .before .before .before .before .before .before)))) (lines (parts-at (c .before .before .before .before .before .before .before .before .before .before .before .before .before .before .before .before .before) .headers)) blank)
+    → LinesRead (headLent (c .read-headers .result .message) (c .read-headers .last .1 .1 .0)) (numbersOf (c .read-headers .result)) (each (readHeaderLine readHeader (lengths (lent-at (c .before .before .before .before .before .before .before .before .before .before .before .before .before .before .before .before)))) (lines (parts-at (c .before .before .before .before .before .before .before .before .before .before .before .before .before .before .before .before) .headers)) blank)
 unfolding lengths
 headers-read c =
-    subst (LinesRead _ _) (headers-same _ (lengths (lent-at (c .before .before .before .before .before .before .before .before .before .before .before .before .before .before .before .before .before))) (kept-start (c .before .before .before .before .before .before .before)) _ blank) (c .read-headers .ensures blank (c .before .before .before .before .before .before .before .start .ensures))
+    subst (LinesRead _ _) (headers-same _ (lengths (lent-at (c .before .before .before .before .before .before .before .before .before .before .before .before .before .before .before .before))) (kept-start (c .before .before .before .before .before .before)) _ blank) (c .read-headers .ensures blank (c .before .before .before .before .before .before .start .ensures))
 
-kept-headers : (c : tie.After-read-headers) → length (c .read-headers .last .1 .1 .0) ≡ length (c .before .before .before .before .before .before .before .before .before .before .before .before .before .before .before .before .before .args .head .now)
-kept-headers c = c .read-headers .kept .1 .1 .0 ∙ kept-start (c .before .before .before .before .before .before .before)
+kept-headers : (c : tie.After-read-headers) → length (c .read-headers .last .1 .1 .0) ≡ length (c .before .before .before .before .before .before .before .before .before .before .before .before .before .before .before .before .args .head .now)
+kept-headers c = c .read-headers .kept .1 .1 .0 ∙ kept-start (c .before .before .before .before .before .before)
 
-headers-are : (c : tie.Else3) → (m : Message) × (each (readHeaderLine readHeader (lengths (lent-at (c .before .before .before .before .before .before .before .before .before .before .before .before .before .before .before .before .before .before .before .before .before .before .before)))) (lines (parts-at (c .before .before .before .before .before .before .before .before .before .before .before .before .before .before .before .before .before .before .before .before .before .before .before) .headers)) blank ≡ accepted m)
-headers-are c = zero-accepted _ _ (headers-read (c .before .before .before .before .before .before) .answered) (c .if3 .left)
+headers-are : (c : tie.Else3) → (m : Message) × (each (readHeaderLine readHeader (lengths (lent-at (c .before .before .before .before .before .before .before .before .before .before .before .before .before .before .before .before .before .before .before .before .before)))) (lines (parts-at (c .before .before .before .before .before .before .before .before .before .before .before .before .before .before .before .before .before .before .before .before .before) .headers)) blank ≡ accepted m)
+headers-are c = zero-accepted _ _ (headers-read (c .before .before .before .before .before) .answered) (c .if3 .left)
 
 -- the content headers in the same way
 contents-read : (c : tie.After-read-contents)
-    → LinesRead (headLent (c .read-contents .result .message) (c .read-contents .last .1 .1 .0)) (numbersOf (c .read-contents .result)) (each (readContentLine (lengths (lent-at (c .before .before .before .before .before .before .before .before .before .before .before .before .before .before .before .before .before .before .before .before .before .before .before .before .before .before)))) (lines (parts-at (c .before .before .before .before .before .before .before .before .before .before .before .before .before .before .before .before .before .before .before .before .before .before .before .before .before .before) .contents)) (headers-are (c .before .before .before) .0))
+    → LinesRead (headLent (c .read-contents .result .message) (c .read-contents .last .1 .1 .0)) (numbersOf (c .read-contents .result)) (each (readContentLine (lengths (lent-at (c .before .before .before .before .before .before .before .before .before .before .before .before .before .before .before .before .before .before .before .before .before .before .before .before)))) (lines (parts-at (c .before .before .before .before .before .before .before .before .before .before .before .before .before .before .before .before .before .before .before .before .before .before .before .before) .contents)) (headers-are (c .before .before .before) .0))
 unfolding lengths
 contents-read c =
     let h = headers-are (c .before .before .before) in
-    subst (LinesRead _ _) (contents-same _ (lengths (lent-at (c .before .before .before .before .before .before .before .before .before .before .before .before .before .before .before .before .before .before .before .before .before .before .before .before .before .before))) (kept-headers (c .before .before .before .before .before .before .before .before .before)) _ (h .0)) (c .read-contents .ensures (h .0) (headers-read (c .before .before .before .before .before .before .before .before .before) .held (h .0) (h .1)))
+    subst (LinesRead _ _) (contents-same _ (lengths (lent-at (c .before .before .before .before .before .before .before .before .before .before .before .before .before .before .before .before .before .before .before .before .before .before .before .before))) (kept-headers (c .before .before .before .before .before .before .before .before)) _ (h .0)) (c .read-contents .ensures (h .0) (headers-read (c .before .before .before .before .before .before .before .before) .held (h .0) (h .1)))
 
-kept-contents : (c : tie.After-read-contents) → length (c .read-contents .last .1 .1 .0) ≡ length (c .before .before .before .before .before .before .before .before .before .before .before .before .before .before .before .before .before .before .before .before .before .before .before .before .before .before .args .head .now)
-kept-contents c = c .read-contents .kept .1 .1 .0 ∙ kept-headers (c .before .before .before .before .before .before .before .before .before)
+kept-contents : (c : tie.After-read-contents) → length (c .read-contents .last .1 .1 .0) ≡ length (c .before .before .before .before .before .before .before .before .before .before .before .before .before .before .before .before .before .before .before .before .before .before .before .before .args .head .now)
+kept-contents c = c .read-contents .kept .1 .1 .0 ∙ kept-headers (c .before .before .before .before .before .before .before .before)
 
-contents-are : (c : tie.Else4) → (m : Message) × (each (readContentLine (lengths (lent-at (c .before .before .before .before .before .before .before .before .before .before .before .before .before .before .before .before .before .before .before .before .before .before .before .before .before .before .before .before .before .before)))) (lines (parts-at (c .before .before .before .before .before .before .before .before .before .before .before .before .before .before .before .before .before .before .before .before .before .before .before .before .before .before .before .before .before .before) .contents)) (headers-are (c .before .before .before .before .before .before .before) .0) ≡ accepted m)
+contents-are : (c : tie.Else4) → (m : Message) × (each (readContentLine (lengths (lent-at (c .before .before .before .before .before .before .before .before .before .before .before .before .before .before .before .before .before .before .before .before .before .before .before .before .before .before .before .before)))) (lines (parts-at (c .before .before .before .before .before .before .before .before .before .before .before .before .before .before .before .before .before .before .before .before .before .before .before .before .before .before .before .before) .contents)) (headers-are (c .before .before .before .before .before .before .before) .0) ≡ accepted m)
 contents-are c = zero-accepted _ _ (contents-read (c .before .before .before .before) .answered) (c .if4 .left)
 
 slice-aggregate-says : tie.Need-slice-aggregate-says
@@ -135,54 +135,51 @@ part-read-headers-end c =
 slice-aggregate-read-headers : tie.Need-slice-aggregate-read-headers
 slice-aggregate-read-headers c = search needs
 
-slice-aggregate-read-headers-2 : tie.Need-slice-aggregate-read-headers-2
-slice-aggregate-read-headers-2 c = search needs
-
 read-headers-requires : tie.Need-read-headers-requires
 read-headers-requires c κs =
-    let start = c .before .before .before .before .before .before .before .before .before .before .before .before .before .before .before .before in
-    (holds-held _ blank (c .before .before .before .before .before .before .start .ensures), (texts-at start .0, (omega arith, omega arith)))
+    let start = c .before .before .before .before .before .before .before .before .before .before .before .before .before .before .before in
+    (holds-held _ blank (c .before .before .before .before .before .start .ensures), (texts-at start .0, omega arith))
 
 same-length : tie.Need-same-length
-same-length c = kept-headers (c .before .before .before .before .before .before)
+same-length c = kept-headers (c .before .before .before .before .before)
 
 returns-3 : tie.Need-returns-3
 returns-3 c =
-    let start = c .before .before .before .before .before .before .before .before .before .before .before .before .before .before .before .before .before .before .before .before .before .before .before in
-    headers-stop (text-at start) (parts-at start) (parts-are start) (lent-at start) _ _ (said (c .before .before .before .before .before .before .before .before .before .before .before .before .before .before .before .before)) (omega (arith, c .before .before .before .before .before .before .before .before .before .before .before .before .before .before .before .if2)) (headers-read (c .before .before .before .before .before .before) .answered) (c .if3 .taken)
+    let start = c .before .before .before .before .before .before .before .before .before .before .before .before .before .before .before .before .before .before .before .before .before in
+    headers-stop (text-at start) (parts-at start) (parts-are start) (lent-at start) _ _ (said (c .before .before .before .before .before .before .before .before .before .before .before .before .before .before)) (omega (arith, c .before .before .before .before .before .before .before .before .before .before .before .before .before .if2)) (headers-read (c .before .before .before .before .before) .answered) (c .if3 .taken)
 
 sub-read-contents : tie.Need-sub-read-contents
 sub-read-contents c =
-    let h = places (c .before .before .before .before .before .before .before .before .before .before .before .before .before .before .before .before .before .before .before .before .before .before .before) in
+    let h = places (c .before .before .before .before .before .before .before .before .before .before .before .before .before .before .before .before .before .before .before .before .before) in
     omega (arith, h .third)
 
 part-read-contents-start : tie.Need-part-read-contents-start
 part-read-contents-start c =
-    let h = places (c .before .before .before .before .before .before .before .before .before .before .before .before .before .before .before .before .before .before .before .before .before .before .before) in
+    let h = places (c .before .before .before .before .before .before .before .before .before .before .before .before .before .before .before .before .before .before .before .before .before) in
     omega (arith, h .third)
 
 part-read-contents-end : tie.Need-part-read-contents-end
 part-read-contents-end c =
-    let h = places (c .before .before .before .before .before .before .before .before .before .before .before .before .before .before .before .before .before .before .before .before .before .before .before) in
+    let h = places (c .before .before .before .before .before .before .before .before .before .before .before .before .before .before .before .before .before .before .before .before .before) in
     omega (arith, h .third)
 
 read-contents-requires : tie.Need-read-contents-requires
 read-contents-requires c κs =
-    let start = c .before .before .before .before .before .before .before .before .before .before .before .before .before .before .before .before .before .before .before .before .before .before .before .before .before in
+    let start = c .before .before .before .before .before .before .before .before .before .before .before .before .before .before .before .before .before .before .before .before .before .before .before in
     let h = headers-are (c .before .before) in
-    (holds-held _ (h .0) (headers-read (c .before .before .before .before .before .before .before .before) .held (h .0) (h .1)), texts-at start .1)
+    (holds-held _ (h .0) (headers-read (c .before .before .before .before .before .before .before) .held (h .0) (h .1)), texts-at start .1)
 
 same-length-2 : tie.Need-same-length-2
 same-length-2 c = kept-contents (c .before .before .before .before)
 
 returns-4 : tie.Need-returns-4
 returns-4 c =
-    let start = c .before .before .before .before .before .before .before .before .before .before .before .before .before .before .before .before .before .before .before .before .before .before .before .before .before .before .before .before .before .before in
+    let start = c .before .before .before .before .before .before .before .before .before .before .before .before .before .before .before .before .before .before .before .before .before .before .before .before .before .before .before .before in
     let h = headers-are (c .before .before .before .before .before .before .before) in
-    contents-stop (text-at start) (parts-at start) (parts-are start) (lent-at start) _ _ (said (c .before .before .before .before .before .before .before .before .before .before .before .before .before .before .before .before .before .before .before .before .before .before .before)) (omega (arith, c .before .before .before .before .before .before .before .before .before .before .before .before .before .before .before .before .before .before .before .before .before .before .if2)) (h .0) (h .1) (contents-read (c .before .before .before .before) .answered) (c .if4 .taken)
+    contents-stop (text-at start) (parts-at start) (parts-are start) (lent-at start) _ _ (said (c .before .before .before .before .before .before .before .before .before .before .before .before .before .before .before .before .before .before .before .before .before)) (omega (arith, c .before .before .before .before .before .before .before .before .before .before .before .before .before .before .before .before .before .before .before .before .if2)) (h .0) (h .1) (contents-read (c .before .before .before .before) .answered) (c .if4 .taken)
 
 put-body-requires : tie.Need-put-body-requires
-put-body-requires c κs = (places (c .before .before .before .before .before .before .before .before .before .before .before .before .before .before .before .before .before .before .before .before .before .before .before .before .before .before .before .before .before .before .before) .within, c .before .before .before .before .before .before .before .before .before .before .before .before .before .before .before .before .before .before .before .before .before .before .before .before .before .before .before .before .before .before .before .pre .short)
+put-body-requires c κs = (places (c .before .before .before .before .before .before .before .before .before .before .before .before .before .before .before .before .before .before .before .before .before .before .before .before .before .before .before .before .before) .within, c .before .before .before .before .before .before .before .before .before .before .before .before .before .before .before .before .before .before .before .before .before .before .before .before .before .before .before .before .before .pre .short)
 
 same-length-3 : tie.Need-same-length-3
 same-length-3 c = kept-contents (c .before .before .before .before .before .before .before .before)
@@ -192,11 +189,11 @@ same-length-4 c = search needs
 
 returns-5 : tie.Need-returns-5
 returns-5 c =
-    let start = c .before .before .before .before .before .before .before .before .before .before .before .before .before .before .before .before .before .before .before .before .before .before .before .before .before .before .before .before .before .before .before .before .before .before in
+    let start = c .before .before .before .before .before .before .before .before .before .before .before .before .before .before .before .before .before .before .before .before .before .before .before .before .before .before .before .before .before .before .before .before in
     let h = headers-are (c .before .before .before .before .before .before .before .before .before .before .before) in
     let k = contents-are (c .before .before .before .before) in
     let read = contents-read (c .before .before .before .before .before .before .before .before) in
-    body-decides (text-at start) (parts-at start) (parts-are start) (lent-at start) _ _ (said (c .before .before .before .before .before .before .before .before .before .before .before .before .before .before .before .before .before .before .before .before .before .before .before .before .before .before .before)) (omega (arith, c .before .before .before .before .before .before .before .before .before .before .before .before .before .before .before .before .before .before .before .before .before .before .before .before .before .before .if2)) (h .0) (h .1) (k .0) (k .1)
+    body-decides (text-at start) (parts-at start) (parts-are start) (lent-at start) _ _ (said (c .before .before .before .before .before .before .before .before .before .before .before .before .before .before .before .before .before .before .before .before .before .before .before .before .before)) (omega (arith, c .before .before .before .before .before .before .before .before .before .before .before .before .before .before .before .before .before .before .before .before .before .before .before .before .if2)) (h .0) (h .1) (k .0) (k .1)
     (by-same _ (c .before .before .before .before .before .before .before .before .read-contents .last .1 .1 .0) (start .args .head .now) (start .args .body .now) _ _ _ (k .0) (kept-contents (c .before .before .before .before .before .before .before .before)) (c .before .before .put-body .ensures (c .before .before .before .before .before .before .before .before .read-contents .last .1 .1 .0) (k .0) (read .held (k .0) (k .1))))
 
 pub read-parts-spec : {M : Type 1} → statement M
@@ -215,7 +212,6 @@ read-parts-spec =
     part-read-headers-start
     part-read-headers-end
     slice-aggregate-read-headers
-    slice-aggregate-read-headers-2
     read-headers-requires
     same-length
     returns-3

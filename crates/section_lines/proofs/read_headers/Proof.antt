@@ -21,18 +21,18 @@ use Rattle.section_lines.proofs.read_headers.Statement.{statement}
 use Rattle.section_lines.proofs.read_headers.Tie as tie
 
 abbrev Inv-loop : tie.InvT-loop
-Inv-loop section head₀ params₀ value₀ crlf so-far₀ at₀ head params value so-far at =
-    (SoFar (readHeaderLine readHeader (lengths (headLent so-far₀ head₀))) (lineEndFor crlf) section so-far₀ head₀ at so-far head) × (length params ≡ length params₀) × (length value ≡ length value₀)
+Inv-loop section head₀ params₀ crlf so-far₀ at₀ head params so-far at =
+    (SoFar (readHeaderLine readHeader (lengths (headLent so-far₀ head₀))) (lineEndFor crlf) section so-far₀ head₀ at so-far head) × (length params ≡ length params₀)
 
 abbrev μ-loop : tie.MeasureT-loop
-μ-loop section head₀ params₀ value₀ crlf so-far₀ at₀ head params value so-far at = length section - at
+μ-loop section head₀ params₀ crlf so-far₀ at₀ head params so-far at = length section - at
 
 -- what the loop began with
 abbrev section-at : tie.At-loop Inv-loop μ-loop → Bytes
-section-at c = c .before .before .before .before .before .before .args .section .now
+section-at c = c .before .before .before .before .before .args .section .now
 
 abbrev step-at : tie.At-loop Inv-loop μ-loop → Bytes → Message → Out Message
-step-at c = readHeaderLine readHeader (lengths (headLent (c .before .before .before .before .before .before .args .m) (c .before .before .before .before .before .before .args .head .now)))
+step-at c = readHeaderLine readHeader (lengths (headLent (c .before .before .before .before .before .args .m) (c .before .before .before .before .before .args .head .now)))
 
 abbrev end-at : tie.At-loop Inv-loop μ-loop → Bytes
 end-at c = lineEndFor (c .before .crlf-lines .result)
@@ -60,10 +60,9 @@ crlf-lines-requires c κs = search needs
 
 loop-holds : tie.Need-loop-holds Inv-loop μ-loop
 loop-holds c =
-    let start = c .before .before .before .before .before in (
+    let start = c .before .before .before .before in (
       so-far-start (readHeaderLine readHeader (lengths (headLent (start .args .m) (start .args .head .now)))) (lineEndFor (c .crlf-lines .result)) (start .args .section .now) (start .args .m) (start .args .head .now)
           (lines-are (start .args .section .now) ∙ ap (λ (b : Bool). pieces (split (lineEndFor b) (start .args .section .now))) (sym (c .crlf-lines .ensures))) (start .pre .1 .0),
-      refl,
       refl,
     )
 
@@ -93,14 +92,14 @@ part-header-line-end c = omega (arith, end c)
 
 header-line-requires : tie.Need-header-line-requires Inv-loop μ-loop
 header-line-requires c κs =
-    let k = c .before .before .before .before in
+    let k = c .before .before .before in
     let a = k .before .before .before in
-    let start = a .before .before .before .before .before .before in (
+    let start = a .before .before .before .before .before in (
       still-held (step-at a) (end-at a) (section-at a) (start .args .m) (start .args .head .now) (a .loop .at) (a .loop .so-far) (a .loop .head) (a .loop .inv .0) (start .pre .0),
       (
         rw (part-is (a .loop .at) (k .before .cut-line .result .end) (section-at a))
             (line-utf8 (step-at a) (end-at a) (section-at a) (start .args .m) (start .args .head .now) (a .loop .at) (a .loop .so-far) (a .loop .head) (a .loop .inv .0) (line-at k) (others-at k) (cut k)),
-        (omega (arith, a .loop .inv .1), omega (arith, a .loop .inv .2)),
+        omega (arith, a .loop .inv .1),
       ),
     )
 
@@ -110,63 +109,56 @@ same-length c = search needs
 same-length-2 : tie.Need-same-length-2 Inv-loop μ-loop
 same-length-2 c = search needs
 
-same-length-3 : tie.Need-same-length-3 Inv-loop μ-loop
-same-length-3 c = search needs
-
 returns : tie.Need-returns Inv-loop μ-loop
 returns c =
-    let k = c .before .before .before .before .before .before .before .before .before .before .before .before .before in
+    let k = c .before .before .before .before .before .before .before .before .before .before in
     let a = k .before .before .before in
-    let start = a .before .before .before .before .before .before in
+    let start = a .before .before .before .before .before in
     line-refused (step-at a) (end-at a) (section-at a) (start .args .m) (start .args .head .now) (a .loop .at) (a .loop .so-far) (a .loop .head) (a .loop .inv .0) (line-at k) (others-at k) (cut k) _ _ _
-    (does-same _ _ _ (readHeaderLine readHeader) _ _ _ _ (lengths-kept _ _ _ _ (a .loop .inv .0 .kept)) (part-is (a .loop .at) (k .before .cut-line .result .end) (section-at a)) (c .before .before .before .before .before .before .before .before .header-line .ensures))
+    (does-same _ _ _ (readHeaderLine readHeader) _ _ _ _ (lengths-kept _ _ _ _ (a .loop .inv .0 .kept)) (part-is (a .loop .at) (k .before .cut-line .result .end) (section-at a)) (c .before .before .before .before .before .before .header-line .ensures))
     (c .if1 .taken)
+
+same-length-3 : tie.Need-same-length-3 Inv-loop μ-loop
+same-length-3 c = search needs
 
 same-length-4 : tie.Need-same-length-4 Inv-loop μ-loop
 same-length-4 c = search needs
 
-same-length-5 : tie.Need-same-length-5 Inv-loop μ-loop
-same-length-5 c = search needs
-
-same-length-6 : tie.Need-same-length-6 Inv-loop μ-loop
-same-length-6 c = search needs
-
 returns-2 : tie.Need-returns-2 Inv-loop μ-loop
 returns-2 c =
-    let k = c .before .before .before .before .before .before .before .before .before .before .before .before .before .before in
+    let k = c .before .before .before .before .before .before .before .before .before .before .before in
     let a = k .before .before .before in
-    let start = a .before .before .before .before .before .before in
+    let start = a .before .before .before .before .before in
     line-last (step-at a) (end-at a) (section-at a) (start .args .m) (start .args .head .now) (a .loop .at) (a .loop .so-far) (a .loop .head) (a .loop .inv .0) (line-at k) (others-at k) (cut k) _ _ _
-    (does-same _ _ _ (readHeaderLine readHeader) _ _ _ _ (lengths-kept _ _ _ _ (a .loop .inv .0 .kept)) (part-is (a .loop .at) (k .before .cut-line .result .end) (section-at a)) (c .before .before .before .before .before .before .before .before .before .header-line .ensures))
+    (does-same _ _ _ (readHeaderLine readHeader) _ _ _ _ (lengths-kept _ _ _ _ (a .loop .inv .0 .kept)) (part-is (a .loop .at) (k .before .cut-line .result .end) (section-at a)) (c .before .before .before .before .before .before .before .header-line .ensures))
     (header-line-valid _) (c .before .if1 .left)
     (no-others _ _ _ _ (k .before .cut-line .ensures) (c .if2 .taken))
 
 add-at : tie.Need-add-at Inv-loop μ-loop
 add-at c =
-    let k = c .before .before .before .before .before .before .before .before .before .before .before .before .before .before .before .before in
+    let k = c .before .before .before .before .before .before .before .before .before .before .before .before .before in
     let a = k .before .before .before in
-    let start = a .before .before .before .before .before .before in
+    let start = a .before .before .before .before .before in
     record { fits = omega (arith, end k, next k (c .before .before .if2 .left)) }
 
 loop-less : tie.Need-loop-less Inv-loop μ-loop
 loop-less c =
-    let k = c .before .before .before .before .before .before .before .before .before .before .before .before .before .before .before .before in
+    let k = c .before .before .before .before .before .before .before .before .before .before .before .before .before in
     let a = k .before .before .before in
-    let start = a .before .before .before .before .before .before in
+    let start = a .before .before .before .before .before in
     omega (arith, next k (c .before .before .if2 .left))
 
 loop-again : tie.Need-loop-again Inv-loop μ-loop
 loop-again c =
-    let k = c .before .before .before .before .before .before .before .before .before .before .before .before .before .before .before .before in
+    let k = c .before .before .before .before .before .before .before .before .before .before .before .before .before in
     let a = k .before .before .before in
-    let start = a .before .before .before .before .before .before in
-    let call = c .before .before .before .before .before .before .before .before .before .before .before .header-line in (
+    let start = a .before .before .before .before .before in
+    let call = c .before .before .before .before .before .before .before .before .before .header-line in (
       line-next (step-at a) (end-at a) (section-at a) (start .args .m) (start .args .head .now) (a .loop .at) (a .loop .so-far) (a .loop .head) (a .loop .inv .0) (line-at k) (others-at k) (cut k) _ _ _
           (does-same _ _ _ (readHeaderLine readHeader) _ _ _ _ (lengths-kept _ _ _ _ (a .loop .inv .0 .kept)) (part-is (a .loop .at) (k .before .cut-line .result .end) (section-at a)) (call .ensures))
           (header-line-valid _) (c .before .before .before .if1 .left) _ (next k (c .before .before .if2 .left) .0) (call .kept .1 .1 .0)
           (more-others _ _ _ _ (k .before .cut-line .ensures) (c .before .before .if2 .left)),
       call .kept .1 .1 .1 .0 ∙ a .loop .inv .1,
-      call .kept .1 .1 .1 .1 .0 ∙ a .loop .inv .2,
     )
 
 pub read-headers-spec : {M : Type 1} → statement M
@@ -188,11 +180,9 @@ read-headers-spec =
     header-line-requires
     same-length
     same-length-2
-    same-length-3
     returns
+    same-length-3
     same-length-4
-    same-length-5
-    same-length-6
     returns-2
     add-at
     loop-less

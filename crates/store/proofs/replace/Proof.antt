@@ -6,6 +6,8 @@ use lib.ListN.{length}
 use borrow.Author.Needs.{needs}
 use borrow.Author.Tests.{lt-ltb, le-ltb}
 use Rattle.format.proofs.Answers.{room-short, room-enough, passed-numbers}
+use Rattle.store.specs.Notations.{valueRead}
+use Rattle.store.specs.Spliced.{entrySize}
 use Rattle.store.proofs.Splicing.{if-true, if-false}
 use Rattle.store.proofs.replace.Statement.{statement}
 use Rattle.store.proofs.replace.Tie as tie
@@ -30,14 +32,14 @@ returns c =
     let start = c .before .before .before .before .before in
     let args = start .args in
     let store = length (args .store .now) in
-    let need = args .used - args .old + (16 + (length (args .name .now) + (length (args .value .now) + length (args .tail .now)))) in
-    let short : store < need = omega arith in
-    (room-short store need short (omega (arith, start .good .0 .1, start .pre)), if-true _ _ _ (lt-ltb store need short))
+    let need = args .used - args .old + entrySize (args .name .now) (valueRead (args .notation) (args .text .now)) (args .tail .now) in
+    let short : store < need = omega (arith, start .pre .1 .0 .1) in
+    (rw (start .pre .1 .0 .1) (room-short store need short (omega (arith, start .good .0 .1, start .pre))), if-true _ _ _ (lt-ltb store need short))
 
 splice-requires : tie.Need-splice-requires
 splice-requires c κs =
     let start = c .before .before .before .before .before .before in
-    (start .pre .0, (omega arith, start .pre .1))
+    (start .pre .0, (start .pre .1 .0, (omega (arith, start .pre .1 .0 .1), start .pre .1 .1)))
 
 same-length : tie.Need-same-length
 same-length c = search needs
@@ -47,8 +49,8 @@ returns-2 c =
     let start = c .before .before .before .before .before .before .before .before .before in
     let args = start .args in
     let store = length (args .store .now) in
-    let need = args .used - args .old + (16 + (length (args .name .now) + (length (args .value .now) + length (args .tail .now)))) in
-    let fits : need ≤ store = omega arith in
+    let need = args .used - args .old + entrySize (args .name .now) (valueRead (args .notation) (args .text .now)) (args .tail .now) in
+    let fits : need ≤ store = omega (arith, start .pre .1 .0 .1) in
     (passed-numbers _ (room-enough store need fits), c .before .before .splice .ensures ∙ if-false _ _ _ (le-ltb store need fits))
 
 pub replace-spec : {M : Type 1} → statement M
