@@ -114,7 +114,7 @@ fn around(name: &[u8], before: &[u8], s: &[u8], n: usize, behind: &[u8]) {
 }
 
 // Header lines, over a content section that is sound.
-fn lines(name: &[u8], headers: &[u8]) {
+fn header_lines(name: &[u8], headers: &[u8]) {
     notice(name, headers, b"Content-type: text/plain");
 }
 
@@ -126,21 +126,23 @@ fn texts_refused() {
     );
 }
 
+// Header lines, and a content line.
 fn lines_refused() {
-    lines(b"4", b"To");
-    lines(b"5", b"To: \\q");
-    lines(b"6", b": a");
-    lines(b"8", b"T\to: a");
-    lines(b"9", b"a=b: c");
+    header_lines(b"4", b"To");
+    header_lines(b"5", b"To: \\q");
+    header_lines(b"6", b": a");
+    header_lines(b"8", b"T\to: a");
+    header_lines(b"9", b"a=b: c");
     notice(b"11", b"To: a", b"ID: a\tb");
 }
 
 fn params_refused() {
-    lines(b"12", b"To;=x: a");
-    lines(b"14", b"To;a\"b=c: a");
-    lines(b"16", b"To;a=b\"c: a");
+    header_lines(b"12", b"To;=x: a");
+    header_lines(b"14", b"To;a\"b=c: a");
+    header_lines(b"16", b"To;a=b\"c: a");
 }
 
+// Content types, and a text that is not UTF-8.
 fn types_refused() {
     notice(b"17", b"To: a", b"Content-type:");
     notice(b"19", b"To: a", b"Content-type: a\x07b");
@@ -175,7 +177,7 @@ fn length_of_type() {
     );
 }
 
-// The last one replaces the one before it, and counts all the same.
+// 20, 21 and 22: the last parameter and the last content header replace the ones before them, and count all the same.
 fn counts() {
     around_in_line(b"20", b"To: a", b"\r\nTo: a", 49, b"");
     around_in_line(
@@ -307,10 +309,10 @@ fn bodies() {
 
 fn escapes() {
     with_value(b"P1 by a call", b"A\\B");
-    lines(b"P1", b"To: A\\\\B");
-    lines(b"P2", b"To: \\u0041");
-    lines(b"P3", b"To: \\u+041");
-    lines(b"P4", b"To: \\ud800");
+    header_lines(b"P1", b"To: A\\\\B");
+    header_lines(b"P2", b"To: \\u0041");
+    header_lines(b"P3", b"To: \\u+041");
+    header_lines(b"P4", b"To: \\ud800");
 }
 
 fn messages() {
