@@ -1,9 +1,6 @@
 # `make` proves everything and prints what is proved of the whole; `make show` is a first look; `make test` is the gate.
 .PHONY: prove show test examples compare bench format library calls gateway notice rt cargo
 
-# More jobs than a machine of two cores has: crates of one level, and edits, wait for the slowest among them.
-export RT_JOBS ?= 4
-
 prove: rt
 	@rt prove
 	@echo
