@@ -2,18 +2,18 @@
 // altered to several values each. A call is accepted, or refused by 25 carrying 0 with nothing changed; after an accepted one
 // the lookups give what the call defines, and all else as before.
 
-use compare::same;
-use content_headers::content_value;
-use counts::count_contents;
-use counts::count_headers;
 use format::Answer;
 use format::CpimHeader;
 use format::CpimMessage;
 use format::HeaderAnswer;
 use io::print_decimal;
 use io::write_all;
+use lookup::content_headers::content_value;
+use lookup::counts::count_contents;
+use lookup::counts::count_headers;
 use lookup::get_header;
 use lookup::get_header_value;
+use octets::compare::same;
 
 // Calls made; accepted; refused by 25 carrying 0; answered otherwise; and those after which something else is held, or
 // something has changed.
@@ -228,7 +228,7 @@ fn try_param(t: Tally, h: CpimHeader, store: [u8; 128]) -> Tally {
         return counted(t, a.number, a.carried, same(&work, &store));
     }
     let mut found = false;
-    let value = alone::param_value(a.header, &work, 0, &mut found);
+    let value = lookup::alone::param_value(a.header, &work, 0, &mut found);
     counted(t, a.number, a.carried, same(value, b"x"))
 }
 
@@ -289,7 +289,7 @@ fn message_tally() -> Tally {
     let from = message::set_header(made.message, &mut head, b"From", b"<im:a@b>");
     let to = message::add_header(from.message, &mut head, b"To", b"c");
     let two = message::add_header(to.message, &mut head, b"To", b"d");
-    let lang = builders::with_subject_lang(two.message, &mut head, b"Hut", b"de");
+    let lang = message::builders::with_subject_lang(two.message, &mut head, b"Hut", b"de");
     let id = message::add_content_header(lang.message, &mut head, b"ID", b"1");
     let m = id.message;
     try_numbers(try_places(none(), m, head), m, head)

@@ -18,8 +18,8 @@ use Rattle.format.specs.declared.CpimMessage.{CpimMessage}
 use Rattle.format.proofs.Steps.{atMost-passed}
 use Rattle.format.proofs.Answers.{carried}
 use Rattle.format.proofs.Messages.Parts.{message-parts}
-use Rattle.groups.specs.Groups.{low, own, high, Grouped}
-use Rattle.groups.proofs.Groups.{insert-parts, put-parts}
+use Rattle.entries.specs.Groups.{low, own, high, Grouped}
+use Rattle.entries.proofs.ByName.{insert-parts, put-parts}
 use Rattle.store.specs.Spliced.{Parted}
 use Rattle.held.specs.Holding.{messageHolds}
 use Rattle.held.proofs.Parts.{HeldParts, held-parts}

@@ -2,14 +2,14 @@
 
 use changing::content_held;
 use changing::refused;
-use compare::same_letters;
-use fields::has;
-use fields::past;
-use fields::up_to;
 use format::Answer;
 use format::CpimMessage;
+use octets::compare::same_letters;
 use octets::copy_at;
-use trimming::trim;
+use sections::fields::has;
+use sections::fields::past;
+use sections::fields::up_to;
+use unicode::trimming::trim;
 use validate::validate_content_type;
 ghost use mathlib.Core.Path.{_≡_};
 ghost use mathlib.Core.Bool.{true};

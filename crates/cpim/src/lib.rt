@@ -1,7 +1,7 @@
 // What others link: reading, writing, the calls on a message and on a header alone, what comes back, and (lookups.rt) the lookups, as C
 // functions on byte slices and numbers, each with the contract of the function that it passes on. A slice crosses as its place and its
-// length, a record as its numbers in the order in which crates/format, text_parts, spots and whole declare it. What is lent to be written
-// must overlap nothing else that is lent.
+// length, a record as its numbers in the order in which crates/format, text_parts, places (spots.rt) and whole declare it. What is lent
+// to be written must overlap nothing else that is lent.
 
 mod lookups;
 
@@ -119,42 +119,42 @@ pub extern "C" fn cpim_add_header_obj(
 pub extern "C" fn cpim_with_from(m: CpimMessage, head: &mut [u8], from: &[u8]) -> Answer
     ensures { λ r. ⌜ Changed (with-from (now (from .entry))) (headLent m (now (head .entry))) (headLent (r .message) (now (head .exit))) (numbersOf r) ⌝ }
 {
-    builders::with_from(m, head, from)
+    message::builders::with_from(m, head, from)
 }
 
 #[no_mangle]
 pub extern "C" fn cpim_with_to(m: CpimMessage, head: &mut [u8], to: &[u8]) -> Answer
     ensures { λ r. ⌜ Changed (with-to (now (to .entry))) (headLent m (now (head .entry))) (headLent (r .message) (now (head .exit))) (numbersOf r) ⌝ }
 {
-    builders::with_to(m, head, to)
+    message::builders::with_to(m, head, to)
 }
 
 #[no_mangle]
 pub extern "C" fn cpim_with_datetime(m: CpimMessage, head: &mut [u8], datetime: &[u8]) -> Answer
     ensures { λ r. ⌜ Changed (with-datetime (now (datetime .entry))) (headLent m (now (head .entry))) (headLent (r .message) (now (head .exit))) (numbersOf r) ⌝ }
 {
-    builders::with_datetime(m, head, datetime)
+    message::builders::with_datetime(m, head, datetime)
 }
 
 #[no_mangle]
 pub extern "C" fn cpim_with_subject(m: CpimMessage, head: &mut [u8], subject: &[u8]) -> Answer
     ensures { λ r. ⌜ Changed (with-subject (now (subject .entry))) (headLent m (now (head .entry))) (headLent (r .message) (now (head .exit))) (numbersOf r) ⌝ }
 {
-    builders::with_subject(m, head, subject)
+    message::builders::with_subject(m, head, subject)
 }
 
 #[no_mangle]
 pub extern "C" fn cpim_with_cc(m: CpimMessage, head: &mut [u8], cc: &[u8]) -> Answer
     ensures { λ r. ⌜ Changed (with-cc (now («cc» .entry))) (headLent m (now (head .entry))) (headLent (r .message) (now (head .exit))) (numbersOf r) ⌝ }
 {
-    builders::with_cc(m, head, cc)
+    message::builders::with_cc(m, head, cc)
 }
 
 #[no_mangle]
 pub extern "C" fn cpim_with_require(m: CpimMessage, head: &mut [u8], feature: &[u8]) -> Answer
     ensures { λ r. ⌜ Changed (with-require (now (feature .entry))) (headLent m (now (head .entry))) (headLent (r .message) (now (head .exit))) (numbersOf r) ⌝ }
 {
-    builders::with_require(m, head, feature)
+    message::builders::with_require(m, head, feature)
 }
 
 #[no_mangle]
@@ -166,14 +166,14 @@ pub extern "C" fn cpim_with_subject_lang(
 ) -> Answer
     ensures { λ r. ⌜ Changed (with-subject-lang (now (subject .entry)) (now (lang .entry))) (headLent m (now (head .entry))) (headLent (r .message) (now (head .exit))) (numbersOf r) ⌝ }
 {
-    builders::with_subject_lang(m, head, subject, lang)
+    message::builders::with_subject_lang(m, head, subject, lang)
 }
 
 #[no_mangle]
 pub extern "C" fn cpim_with_ns(m: CpimMessage, head: &mut [u8], prefix: &[u8], uri: &[u8]) -> Answer
     ensures { λ r. ⌜ Changed (with-ns (now (prefix .entry)) (now (uri .entry))) (headLent m (now (head .entry))) (headLent (r .message) (now (head .exit))) (numbersOf r) ⌝ }
 {
-    builders::with_ns(m, head, prefix, uri)
+    message::builders::with_ns(m, head, prefix, uri)
 }
 
 #[no_mangle]
@@ -185,7 +185,7 @@ pub extern "C" fn cpim_with_content_header(
 ) -> Answer
     ensures { λ r. ⌜ Changed (with-content-header (now (name .entry)) (now (value .entry))) (headLent m (now (head .entry))) (headLent (r .message) (now (head .exit))) (numbersOf r) ⌝ }
 {
-    builders::with_content_header(m, head, name, value)
+    message::builders::with_content_header(m, head, name, value)
 }
 
 // A script of changing calls (crates/script/specs/Script.antt), run one behind another; the record is the last call's.

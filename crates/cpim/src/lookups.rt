@@ -1,11 +1,11 @@
 // The lookups as C functions: an export can hand back no reference, so each answers by place in the store that was lent
-// (crates/spots/specs/Spots.antt). Absent: found false, the numbers 0.
+// (crates/places/specs/Spots.antt). Absent: found false, the numbers 0.
 
 use format::CpimHeader;
 use format::CpimMessage;
 use format::Numbers;
-use spots::Pair;
-use spots::Part;
+use places::spots::Pair;
+use places::spots::Part;
 use text_parts::BodyPlace;
 ghost use mathlib.Core.Path.{_≡_};
 ghost use mathlib.Core.Option.{Option};
@@ -15,17 +15,17 @@ ghost use Rattle.format.specs.Lending.{headLent, bothLent};
 ghost use Rattle.format.specs.LookingUp.{nthHeader, getHeader, getHeaderValue, getParam, getType, getBody, getContent, aloneValue, aloneParam, countHeaders, countParams, countContents, bodyAsStr, address};
 ghost use Rattle.places.specs.Rows.{Placed};
 ghost use Rattle.text_parts.specs.Placing.{PlaceIs};
-ghost use Rattle.spots.specs.Spots.{PartIs, PairIs};
-ghost use Rattle.standing.specs.Standing.{contentPlace, addressPlace};
-ghost use Rattle.standing.specs.Standing as alone;
-ghost use Rattle.named_places.specs.Named.{headerPlace, valuePlace, paramPlace};
+ghost use Rattle.places.specs.Spots.{PartIs, PairIs};
+ghost use Rattle.places.specs.Standing.{contentPlace, addressPlace};
+ghost use Rattle.places.specs.Standing as alone;
+ghost use Rattle.places.specs.Named.{headerPlace, valuePlace, paramPlace};
 
 // The first value of a name.
 #[no_mangle]
 pub extern "C" fn cpim_get_header(m: CpimMessage, head: &[u8], name: &[u8]) -> Part
     ensures { λ r. ⌜ ((o : Option Message) → Held (headLent m (now (head .entry))) o → PartIs (now (head .entry)) (valuePlace (headerPlace o (now (name .entry)) 0) (nthHeader o (now (name .entry)) 0)) (getHeader o (now (name .entry))) r) ⌝ }
 {
-    named_places::get_header(m, head, name)
+    places::by_name::get_header(m, head, name)
 }
 
 // The n-th value of a name.
@@ -33,7 +33,7 @@ pub extern "C" fn cpim_get_header(m: CpimMessage, head: &[u8], name: &[u8]) -> P
 pub extern "C" fn cpim_get_header_value(m: CpimMessage, head: &[u8], name: &[u8], n: usize) -> Part
     ensures { λ r. ⌜ ((o : Option Message) → Held (headLent m (now (head .entry))) o → PartIs (now (head .entry)) (valuePlace (headerPlace o (now (name .entry)) n) (nthHeader o (now (name .entry)) n)) (getHeaderValue o (now (name .entry)) n) r) ⌝ }
 {
-    named_places::get_header_value(m, head, name, n)
+    places::by_name::get_header_value(m, head, name, n)
 }
 
 // The n-th parameter of the k-th value of a name.
@@ -47,28 +47,28 @@ pub extern "C" fn cpim_get_param(
 ) -> Pair
     ensures { λ r. ⌜ ((o : Option Message) → Held (headLent m (now (head .entry))) o → PairIs (now (head .entry)) (paramPlace (headerPlace o (now (name .entry)) k) (nthHeader o (now (name .entry)) k) n) (getParam o (now (name .entry)) k n) r) ⌝ }
 {
-    named_places::get_param(m, head, name, k, n)
+    places::by_name::get_param(m, head, name, k, n)
 }
 
 #[no_mangle]
 pub extern "C" fn cpim_content_type(m: CpimMessage, head: &[u8]) -> Part
     ensures { λ r. ⌜ ((o : Option Message) → Held (headLent m (now (head .entry))) o → PartIs (now (head .entry)) 0 (getType o) r) ⌝ }
 {
-    standing::content_type(m, head)
+    places::standing::content_type(m, head)
 }
 
 #[no_mangle]
 pub extern "C" fn cpim_body(m: CpimMessage, head: &[u8], body: &[u8]) -> Part
     ensures { λ r. ⌜ ((o : Option Message) → Held (bothLent m (now (head .entry)) (now (body .entry))) o → PartIs (now (body .entry)) 0 (getBody o) r) ⌝ }
 {
-    standing::body(m, head, body)
+    places::standing::body(m, head, body)
 }
 
 #[no_mangle]
 pub extern "C" fn cpim_body_as_str(m: CpimMessage, head: &[u8], body: &[u8]) -> bool
     ensures { λ r. ⌜ ((o : Option Message) → Held (bothLent m (now (head .entry)) (now (body .entry))) o → r ≡ bodyAsStr o) ⌝ }
 {
-    accessors::body_as_str(m, head, body)
+    lookup::accessors::body_as_str(m, head, body)
 }
 
 // The n-th content header.
@@ -76,14 +76,14 @@ pub extern "C" fn cpim_body_as_str(m: CpimMessage, head: &[u8], body: &[u8]) -> 
 pub extern "C" fn cpim_content_header(m: CpimMessage, head: &[u8], n: usize) -> Pair
     ensures { λ r. ⌜ ((o : Option Message) → Held (headLent m (now (head .entry))) o → PairIs (now (head .entry)) (contentPlace o n) (getContent o n) r) ⌝ }
 {
-    standing::content_header(m, head, n)
+    places::standing::content_header(m, head, n)
 }
 
 #[no_mangle]
 pub extern "C" fn cpim_header_value(h: CpimHeader, store: &[u8]) -> Part
     ensures { λ r. ⌜ ((o : Option LoneHeader) → HeldAlone h (now (store .entry)) o → PartIs (now (store .entry)) 16 (aloneValue o) r) ⌝ }
 {
-    standing::header_value(h, store)
+    places::standing::header_value(h, store)
 }
 
 // The n-th parameter of a header alone.
@@ -91,28 +91,28 @@ pub extern "C" fn cpim_header_value(h: CpimHeader, store: &[u8]) -> Part
 pub extern "C" fn cpim_header_param(h: CpimHeader, store: &[u8], n: usize) -> Pair
     ensures { λ r. ⌜ ((o : Option LoneHeader) → HeldAlone h (now (store .entry)) o → PairIs (now (store .entry)) (alone.paramPlace o n) (aloneParam o n) r) ⌝ }
 {
-    standing::header_param(h, store, n)
+    places::standing::header_param(h, store, n)
 }
 
 #[no_mangle]
 pub extern "C" fn cpim_count_headers(m: CpimMessage, head: &[u8]) -> usize
     ensures { λ r. ⌜ ((o : Option Message) → Held (headLent m (now (head .entry))) o → r ≡ countHeaders o) ⌝ }
 {
-    counts::count_headers(m, head)
+    lookup::counts::count_headers(m, head)
 }
 
 #[no_mangle]
 pub extern "C" fn cpim_count_params(m: CpimMessage, head: &[u8]) -> usize
     ensures { λ r. ⌜ ((o : Option Message) → Held (headLent m (now (head .entry))) o → r ≡ countParams o) ⌝ }
 {
-    counts::count_params(m, head)
+    lookup::counts::count_params(m, head)
 }
 
 #[no_mangle]
 pub extern "C" fn cpim_count_contents(m: CpimMessage, head: &[u8]) -> usize
     ensures { λ r. ⌜ ((o : Option Message) → Held (headLent m (now (head .entry))) o → r ≡ countContents o) ⌝ }
 {
-    counts::count_contents(m, head)
+    lookup::counts::count_contents(m, head)
 }
 
 // Where all of them stand: four numbers for each header, parameter and content header.
@@ -128,7 +128,7 @@ pub extern "C" fn cpim_places(m: CpimMessage, head: &[u8], out: &mut [usize]) ->
 pub extern "C" fn cpim_address(value: &[u8]) -> Part
     ensures { λ r. ⌜ PartIs (now (value .entry)) (addressPlace (now (value .entry))) (address (now (value .entry))) r ⌝ }
 {
-    standing::address(value)
+    places::standing::address(value)
 }
 
 // The second call for the body without a store: a part of the text or of the buffer.

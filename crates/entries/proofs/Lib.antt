@@ -1,5 +1,9 @@
-pub mod Shapes
-pub mod Zeros
+pub mod ByName
+pub mod Layouts
+pub mod Passing
+pub mod Placing
 pub mod Reading
 pub mod Sequences
-pub mod Layouts
+pub mod Shapes
+pub mod Walks
+pub mod Zeros

@@ -1,1 +1,3 @@
+pub mod Groups
+pub mod Passing
 pub mod Stored

@@ -1,6 +1,8 @@
 // Entries in a store, one behind another: 16 bytes of numbers, name, value, and the bytes of the parameters
 // (crates/format/specs/Layout.antt). Here one is read; specs/Stored.antt says what stands where.
 
+pub mod groups;
+
 ghost use mathlib.Core.Path.{_≡_};
 ghost use mathlib.Core.Bool.{true};
 ghost use Prim.Native.Nat.{_+_, _*_, _≤_, _<_};

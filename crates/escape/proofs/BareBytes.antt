@@ -9,12 +9,12 @@ use borrow.Author.Tests.{eqb-false, ltb-false, ne-eqb, not-true}
 use Rattle.format.specs.Bytes.{Bytes, all}
 use Rattle.format.specs.Escaping.{escape}
 use Rattle.format.proofs.Lists.{and-left, and-right, or-false-left, or-false-right}
-use Rattle.bare.specs.Bare.{isLow, isBare}
-use Rattle.forms.specs.Forms.{formOf, takesForm, writtenForm}
-use Rattle.forms.specs.declared.Form.{Form}
-use Rattle.forms.specs.declared.Form.the-variants.{Raw}
-use Rattle.forms.proofs.Units.{escape-nil, escape-unit, form-byte}
-use Rattle.forms.proofs.Forms.{byte-plain}
+use Rattle.escape.specs.Bare.{isLow, isBare}
+use Rattle.escape.specs.Forms.{formOf, takesForm, writtenForm}
+use Rattle.escape.specs.declared.forms.Form.{Form}
+use Rattle.escape.specs.declared.forms.Form.the-variants.{Raw}
+use Rattle.escape.proofs.Units.{escape-nil, escape-unit, form-byte}
+use Rattle.escape.proofs.FormAt.{byte-plain}
 
 -- What is known of a bare byte.
 record Bare (b : ℕ) : Type 0 where

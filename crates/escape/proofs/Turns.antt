@@ -11,10 +11,10 @@ use Rattle.format.specs.Bytes.{Bytes, if_then_else_, pasted}
 use Rattle.format.specs.Characters.{_to_, within}
 use Rattle.format.specs.Escaping.{unicodeEscape, escape}
 use Rattle.octets.proofs.Paste.{pasted-pasted}
-use Rattle.forms.specs.Forms.{byteForm, formOf, takesForm, widthForm, writtenForm}
-use Rattle.forms.specs.declared.Form.{Form}
-use Rattle.forms.specs.declared.Form.the-variants.{Raw, Short, Long, Upper}
-use Rattle.forms.proofs.Units.{escape-nil, escape-unit, byte-takes}
+use Rattle.escape.specs.Forms.{byteForm, formOf, takesForm, widthForm, writtenForm}
+use Rattle.escape.specs.declared.forms.Form.{Form}
+use Rattle.escape.specs.declared.forms.Form.the-variants.{Raw, Short, Long, Upper}
+use Rattle.escape.proofs.Units.{escape-nil, escape-unit, byte-takes}
 
 pub width-written : (f : Form) → length (writtenForm f) ≡ widthForm f
 unfolding unicodeEscape

@@ -1,12 +1,16 @@
 // Document 01, "Escaping": a header value as it is written, in two steps: the length, for which the caller lends the
 // room, and the bytes.
 
-use bare::bare_text;
-use forms::form_at;
-use forms::takes;
-use forms::width;
+mod bare;
+mod forms;
+mod putting;
+
+use crate::bare::bare_text;
+use crate::forms::form_at;
+use crate::forms::takes;
+use crate::forms::width;
+use crate::putting::put_form;
 use octets::copy_at;
-use putting::put_form;
 ghost use mathlib.Core.Path.{_≡_};
 ghost use Prim.Native.Nat.{_+_, _*_, _^_, _≤_, _<_};
 ghost use lib.ListN.{length};

@@ -11,9 +11,9 @@ use Rattle.format.specs.Layout.{HoldsAlone, layoutEntry}
 use Rattle.format.specs.declared.CpimHeader.{CpimHeader}
 use Rattle.format.proofs.Messages.Parts as valid
 use Rattle.entries.specs.Stored.{storedSize, shapedAll, entriesIn}
-use Rattle.groups.specs.Passing.{under, ofName}
-use Rattle.groups.specs.Groups.{Grouped}
-use Rattle.groups.proofs.Placing.{grouped-entries}
+use Rattle.entries.specs.Passing.{under, ofName}
+use Rattle.entries.specs.Groups.{Grouped}
+use Rattle.entries.proofs.Placing.{grouped-entries}
 use Rattle.held.specs.Holding.{headerHolds, paramsPart}
 use Rattle.held.specs.Decoding.{headerIn}
 use Rattle.held.proofs.Parts.{AloneParts, alone-parts}

@@ -20,8 +20,8 @@ use Rattle.format.specs.declared.HeaderAnswer.{HeaderAnswer}
 use Rattle.format.proofs.Steps.{then-passes, then-passed, atMost-passes, atMost-passed}
 use Rattle.format.proofs.Answers.{carried, other-fails, then-refused, over-limit}
 use Rattle.format.proofs.Messages.Parts as valid
-use Rattle.groups.specs.Groups.{low, own, high, Grouped}
-use Rattle.groups.proofs.Groups.{put-parts}
+use Rattle.entries.specs.Groups.{low, own, high, Grouped}
+use Rattle.entries.proofs.ByName.{put-parts}
 use Rattle.store.specs.Spliced.{Parted}
 use Rattle.held.proofs.Parts.{alone-parts}
 use Rattle.placing.proofs.Groups.{increasing-ascending, in-place}

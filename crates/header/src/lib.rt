@@ -1,13 +1,13 @@
 // A header alone in its lent store, under the source's names: made with a value, then given parameters. Refused, a call writes
 // nothing; `new` then hands back the empty record, `with_param` the record that it got.
 
+use entries::groups::Group;
+use entries::groups::find_group;
 use format::CpimHeader;
 use format::HeaderAnswer;
 use format::Numbers;
-use groups::Group;
-use groups::find_group;
 use held::header_holds;
-use kinds::MAX_PARAMS_PER_HEADER;
+use judging::kinds::MAX_PARAMS_PER_HEADER;
 use octets::copy_at;
 use store::Notation;
 use store::replace;
@@ -24,7 +24,7 @@ ghost use Rattle.format.specs.Message.{Entry, LoneHeader, entry, entryName, nee
 ghost use Rattle.format.specs.Calls.{ifRoomAlone};
 ghost use Rattle.format.specs.Layout.{HoldsAlone, emptyHeader};
 ghost use Rattle.format.specs.Lending.{headerNumbers, MadeHeader, ParamSet};
-ghost use Rattle.groups.specs.Groups.{Grouped};
+ghost use Rattle.entries.specs.Groups.{Grouped};
 ghost use Rattle.store.specs.Spliced.{Parted};
 ghost use Rattle.held.specs.Holding.{headerHolds};
 ghost use Rattle.header.specs.Alone.{aloneIn, withParams, setIn, DoesAlone};

@@ -11,8 +11,8 @@ use Rattle.format.specs.Reading.{each, readParam}
 use Rattle.format.specs.declared.Numbers.{Numbers}
 use Rattle.format.proofs.Steps.{refused-accepted, then-passed}
 use Rattle.format.proofs.Answers.{other-fails, then-refused}
-use Rattle.params.specs.Gathered.{Yields}
-use Rattle.params.proofs.Yielding.{yields-as}
+use Rattle.header_line.specs.Gathered.{Yields}
+use Rattle.header_line.proofs.Yielding.{yields-as}
 use Rattle.header_line.specs.Lines.{readLeft}
 
 module _ (left : Pieces) (name : Bytes) (is-name : name ≡ trim (left .first)) (n : Numbers) (P : List Entry → Type 0) where

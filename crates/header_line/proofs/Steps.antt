@@ -20,11 +20,11 @@ use Rattle.format.specs.declared.Numbers.{Numbers}
 use Rattle.format.proofs.Lists.{rest-is}
 use Rattle.format.proofs.Steps.{then-accepted, bind-passed, refuseUnless-passed}
 use Rattle.format.proofs.Splitting.SplitUtf8.{upTo-utf8}
-use Rattle.finding.proofs.Find.{found-upTo, found-past, found-has}
+use Rattle.octets.proofs.Find.{found-upTo, found-past, found-has}
 use Rattle.placing.specs.Placing.{Does}
 use Rattle.changing.proofs.Steps.{does-passed, name-short}
-use Rattle.params.specs.Gathered.{Yields}
-use Rattle.params.proofs.Parting.{first-is}
+use Rattle.header_line.specs.Gathered.{Yields}
+use Rattle.header_line.proofs.Parting.{first-is}
 use Rattle.header_line.specs.Lines.{readLeft, appendRead}
 
 -- two checks in front of two steps, and what goes on with what they give

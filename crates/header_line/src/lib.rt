@@ -1,17 +1,19 @@
 // Document 01, "Reading": a header line read and appended to the message that is held. What stands left of the colon is scanned,
 // its parameters into room that is lent for them; then the value is read and the header appended.
 
+mod params;
+
+use crate::params::read_params;
 use changing::append_held;
 use changing::refused;
-use finding::find_byte;
 use format::Answer;
 use format::CpimHeader;
 use format::CpimMessage;
 use format::HeaderAnswer;
-use params::read_params;
+use octets::finding::find_byte;
 use store::Notation;
-use trimming::trim;
 use unescape::unescaped_len;
+use unicode::trimming::trim;
 use validate::MAX_HEADER_VALUE_LENGTH;
 use validate::validate_cpim_header_value;
 use validate::validate_header_name;
@@ -29,7 +31,7 @@ ghost use Rattle.format.specs.Lending.{headLent, lengths, numbersOf, headerNumb
 ghost use Rattle.format.specs.Reading.{checkedValue, readHeader, readLine};
 ghost use Rattle.held.specs.Holding.{messageHolds};
 ghost use Rattle.placing.specs.Placing.{Does};
-ghost use Rattle.params.specs.Gathered.{Yields, Gathered};
+ghost use Rattle.header_line.specs.Gathered.{Yields, Gathered};
 ghost use Rattle.header_line.specs.Lines.{readLeft, appendRead, Tail};
 
 // What stands left of the colon: its name is checked, then its parameters are read into the room. The name is that of the first

@@ -25,7 +25,7 @@ use Rattle.judging.specs.Judging.{entriesHold}
 use Rattle.held.specs.Holding.{sizesHold, valuePart, paramsPart, headerHolds}
 use Rattle.judging.specs.Listed.{entriesFrom}
 use Rattle.held.specs.Decoding.{headerIn}
-use Rattle.kinds.specs.declared.Kind.the-variants.{Param}
+use Rattle.judging.specs.declared.kinds.Kind.the-variants.{Param}
 use Rattle.judging.proofs.Entries.{params-listed, params-hold}
 use Rattle.held.proofs.Parts.{both, alone-parts}
 

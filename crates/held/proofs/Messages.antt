@@ -26,7 +26,7 @@ use Rattle.judging.specs.Judging.{entriesHold, headersHold}
 use Rattle.held.specs.Holding.{typeHolds, numbersHold, typePart, headersPart, contentsPart, messageHolds}
 use Rattle.judging.specs.Listed.{entriesFrom, headersFrom}
 use Rattle.held.specs.Decoding.{messageIn}
-use Rattle.kinds.specs.declared.Kind.the-variants.{Content}
+use Rattle.judging.specs.declared.kinds.Kind.the-variants.{Content}
 use Rattle.judging.proofs.Entries.{contents-listed, contents-hold}
 use Rattle.judging.proofs.Headers.{headers-listed, headers-hold}
 use Rattle.held.proofs.Parts.{both, padded, held-parts}

@@ -12,7 +12,7 @@ use Rattle.format.specs.Refusals.{passes}
 use Rattle.format.specs.Validators.{headerValue, contentType}
 use Rattle.format.specs.declared.CpimMessage.{CpimMessage}
 use Rattle.format.specs.declared.CpimHeader.{CpimHeader}
-use Rattle.kinds.specs.declared.Kind.the-variants.{Param, Content}
+use Rattle.judging.specs.declared.kinds.Kind.the-variants.{Param, Content}
 use Rattle.judging.specs.Judging.{entriesHold, headersHold}
 
 -- the first 256 bytes are a type of n bytes, and zeros

@@ -6,8 +6,8 @@ use format::CpimHeader;
 use format::CpimMessage;
 use judging::entries_hold;
 use judging::headers_hold;
-use kinds::Kind;
-pub use kinds::MAX_PARAMS_PER_HEADER;
+use judging::kinds::Kind;
+pub use judging::kinds::MAX_PARAMS_PER_HEADER;
 use utf8::is_utf8;
 ghost use mathlib.Core.Path.{_≡_};
 ghost use Prim.Native.Nat.{_≤_};
@@ -106,7 +106,7 @@ pub fn header_holds(h: CpimHeader, store: &[u8]) -> bool
     let from = 16 + h.valuelen;
     let to = h.size;
     let value = &store[16..from];
-    if !kinds::value_passes(Kind::Header, value) {
+    if !judging::kinds::value_passes(Kind::Header, value) {
         return false;
     }
     if !is_utf8(value) {

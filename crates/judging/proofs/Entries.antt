@@ -22,12 +22,12 @@ use Rattle.entries.proofs.Shapes.{shape-shaped}
 use Rattle.entries.proofs.Reading.{read-shape, read-stored, read-name, read-rest}
 use Rattle.entries.proofs.Sequences.{entries-bytes, entries-length}
 use Rattle.entries.proofs.Layouts.{contents-bytes}
-use Rattle.kinds.specs.Kinds.{nameCheck, valueCheck, paramsFit, follows}
+use Rattle.judging.specs.Kinds.{nameCheck, valueCheck, paramsFit, follows}
 use Rattle.judging.specs.Judging.{fits, entryHolds, entriesHold}
 use Rattle.judging.specs.Listed.{entryFrom, entriesFrom}
-use Rattle.kinds.specs.declared.Kind.{Kind}
-use Rattle.kinds.specs.declared.Kind.the-variants.{Param, Content}
-use Rattle.kinds.proofs.Names.{linked, ordered, linked-ordered, ordered-linked, behind-none, linked-map, ordered-params, ordered-contents}
+use Rattle.judging.specs.declared.kinds.Kind.{Kind}
+use Rattle.judging.specs.declared.kinds.Kind.the-variants.{Param, Content}
+use Rattle.judging.proofs.Names.{linked, ordered, linked-ordered, ordered-linked, behind-none, linked-map, ordered-params, ordered-contents}
 
 abbrev pub storedName : Stored → Bytes
 storedName e = e .name

@@ -16,11 +16,11 @@ use Rattle.format.proofs.Messages.Parts.{header-parts, header-whole}
 use Rattle.entries.specs.Stored.{Stored, storedBytes, storedHeader, entriesIn}
 use Rattle.entries.proofs.Sequences.{entries-length}
 use Rattle.entries.proofs.Layouts.{headers-bytes, headers-read}
-use Rattle.kinds.specs.Kinds.{nameCheck, valueCheck, paramsFit}
+use Rattle.judging.specs.Kinds.{nameCheck, valueCheck, paramsFit}
 use Rattle.judging.specs.Judging.{fits, entriesHold, tailHolds, headersHold}
 use Rattle.judging.specs.Listed.{headerFrom, headersFrom}
-use Rattle.kinds.specs.declared.Kind.the-variants as kind
-use Rattle.kinds.proofs.Names.{linked, linked-ordered, ordered-linked, behind-none, linked-map, ordered-ascending}
+use Rattle.judging.specs.declared.kinds.Kind.the-variants as kind
+use Rattle.judging.proofs.Names.{linked, linked-ordered, ordered-linked, behind-none, linked-map, ordered-ascending}
 use Rattle.judging.proofs.Entries.{storedName, holds-walked, walked-holds, map-back, fits-parts, parts-fit, params-listed, params-hold}
 
 -- what one test gives of every element, another may take up of what is made of it

@@ -7,10 +7,10 @@ use Rattle.format.specs.Bytes.{Bytes}
 use Rattle.format.specs.Characters.{isUtf8}
 use Rattle.format.specs.Refusals.{passes}
 use Rattle.entries.specs.Stored.{nameIn, valueIn, tailIn, paramCount, storedIn}
-use Rattle.kinds.specs.Kinds.{nameCheck, valueCheck, paramsFit}
-use Rattle.kinds.specs.declared.Kind.{Kind}
-use Rattle.kinds.specs.declared.Kind.the-variants.{Param}
-use Rattle.fitting.specs.Fitting.{nameFits, valueFits}
+use Rattle.judging.specs.Kinds.{nameCheck, valueCheck, paramsFit}
+use Rattle.judging.specs.declared.kinds.Kind.{Kind}
+use Rattle.judging.specs.declared.kinds.Kind.the-variants.{Param}
+use Rattle.judging.specs.Fitting.{nameFits, valueFits}
 use Rattle.judging.specs.Judging.{fits, entriesHold, tailHolds}
 
 -- the same tests in another order

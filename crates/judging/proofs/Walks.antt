@@ -13,9 +13,9 @@ use Rattle.format.proofs.Lists.{and-left}
 use Rattle.entries.specs.Stored.{nameLength, sizeIn, nameIn, storedIn, shaped, shapedAll, entriesIn}
 use Rattle.entries.proofs.Shapes.{within-size, within-numbers}
 use Rattle.entries.proofs.Sequences.{next-shaped, next-entry}
-use Rattle.kinds.specs.Kinds.{follows}
+use Rattle.judging.specs.Kinds.{follows}
 use Rattle.judging.specs.Judging.{fits, entryHolds, entriesHold, tailHolds}
-use Rattle.kinds.specs.declared.Kind.{Kind}
+use Rattle.judging.specs.declared.kinds.Kind.{Kind}
 
 -- one entry, and those behind it
 one-holds : (k : Kind) (n : ℕ) (last s : Bytes) → 0 < n

@@ -7,9 +7,9 @@ use Rattle.format.specs.Bytes.{Bytes, isEmpty, all}
 use Rattle.format.specs.Characters.{isUtf8}
 use Rattle.format.specs.Refusals.{passes}
 use Rattle.entries.specs.Stored.{Stored, shaped, sizeIn, nameIn, storedIn, entriesIn}
-use Rattle.kinds.specs.Kinds.{nameCheck, valueCheck, paramsFit, follows}
-use Rattle.kinds.specs.declared.Kind.{Kind}
-use Rattle.kinds.specs.declared.Kind.the-variants.{Header, Param}
+use Rattle.judging.specs.Kinds.{nameCheck, valueCheck, paramsFit, follows}
+use Rattle.judging.specs.declared.kinds.Kind.{Kind}
+use Rattle.judging.specs.declared.kinds.Kind.the-variants.{Header, Param}
 
 -- an entry within limits and validators, its parameters not looked into
 unfoldable pub fits : Kind → Stored → Bool

@@ -1,2 +1,5 @@
+pub mod Fitting
 pub mod Judging
+pub mod Kinds
 pub mod Listed
+pub mod Weights

@@ -1,6 +1,11 @@
 // Whether bytes are entries of a kind, or headers with their parameters: any bytes are judged, in bounds and entry by entry
 // (specs/Judging.antt).
 
+mod fitting;
+pub mod kinds;
+mod weights;
+
+use crate::kinds::Kind;
 use entries::entry_len;
 use entries::is_shaped;
 use entries::name_at;
@@ -8,7 +13,6 @@ use entries::name_len;
 use entries::param_count;
 use entries::tail_at;
 use entries::value_at;
-use kinds::Kind;
 ghost use mathlib.Core.Path.{_≡_};
 ghost use mathlib.Core.Bool.{true};
 ghost use mathlib.Core.List.{[]};
@@ -16,7 +20,7 @@ ghost use Prim.Native.Nat.{_≤_};
 ghost use lib.ListN.{length, drop};
 ghost use Rattle.format.specs.Bytes.{all};
 ghost use Rattle.entries.specs.Stored.{shaped, shapedAll, storedIn, entriesIn};
-ghost use Rattle.weights.specs.Weights.{weights};
+ghost use Rattle.judging.specs.Weights.{weights};
 ghost use Rattle.judging.specs.Judging.{fits, entryHolds, entriesHold, tailHolds, headersHold};
 
 // Whether the entry at a place is within limits and validators, its parameters not looked into. The table of weights is lent to all
@@ -25,13 +29,13 @@ fn entry_fits(table: &[u8; 256], kind: Kind, s: &[u8], at: usize) -> bool
     requires { ⌜ (now table ≡ weights) × (shaped (drop at (now s)) ≡ true) ⌝ }
     ensures { λ r. ⌜ r ≡ fits kind (storedIn (drop at (now (s .entry)))) ⌝ }
 {
-    if !fitting::name_fits(table, kind, name_at(s, at)) {
+    if !crate::fitting::name_fits(table, kind, name_at(s, at)) {
         return false;
     }
-    if !fitting::value_fits(table, kind, value_at(s, at)) {
+    if !crate::fitting::value_fits(table, kind, value_at(s, at)) {
         return false;
     }
-    kinds::params_fit(kind, param_count(s, at), tail_at(s, at))
+    crate::kinds::params_fit(kind, param_count(s, at), tail_at(s, at))
 }
 
 // Whether such an entry stands at a place, of a name that may stand behind the last one.
@@ -45,7 +49,7 @@ fn entry_holds(table: &[u8; 256], kind: Kind, s: &[u8], at: usize, last: &[u8]) 
     if !entry_fits(table, kind, s, at) {
         return false;
     }
-    kinds::name_follows(kind, last, name_at(s, at))
+    crate::kinds::name_follows(kind, last, name_at(s, at))
 }
 
 // Whether s is so many entries; the last name stands at from..to.
@@ -72,7 +76,7 @@ fn entries_hold_in(table: &[u8; 256], kind: Kind, s: &[u8], count: usize) -> boo
 pub fn entries_hold(kind: Kind, s: &[u8], count: usize) -> bool
     ensures { λ r. ⌜ r ≡ entriesHold kind count [] (now (s .entry)) ⌝ }
 {
-    let table = weights::table();
+    let table = crate::weights::table();
     entries_hold_in(&table, kind, s, count)
 }
 
@@ -96,7 +100,7 @@ fn tails_hold(table: &[u8; 256], s: &[u8], count: usize) -> bool
 pub fn headers_hold(s: &[u8], count: usize) -> bool
     ensures { λ r. ⌜ r ≡ headersHold count (now (s .entry)) ⌝ }
 {
-    let table = weights::table();
+    let table = crate::weights::table();
     if !entries_hold_in(&table, Kind::Header, s, count) {
         return false;
     }

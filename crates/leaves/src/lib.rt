@@ -9,8 +9,8 @@ ghost use Rattle.format.specs.Characters.{isUtf8, isWhite, isControl, replaced,
 ghost use Rattle.format.specs.Escaping.{escape, unescape};
 ghost use Rattle.format.specs.Limits.{maxText};
 ghost use Rattle.unescape.specs.Reads.{measured, valueOf};
-ghost use Rattle.bodies.specs.Body.{joined};
-ghost use Rattle.search.specs.Place.{place};
+ghost use Rattle.sections.specs.Body.{joined};
+ghost use Rattle.sections.specs.Place.{place};
 
 #[no_mangle]
 pub extern "C" fn leaves_is_utf8(s: &[u8]) -> bool
@@ -40,7 +40,7 @@ pub extern "C" fn leaves_trim(out: &mut [u8], s: &[u8]) -> usize
     ensures len { λ r. ⌜ r ≡ length (trim (now (s .entry))) ⌝ }
     ensures bytes { λ _. ⌜ now (out .exit) ≡ pasted 0 (trim (now (s .entry))) (now (out .entry)) ⌝ }
 {
-    let t = trimming::trim(s);
+    let t = unicode::trimming::trim(s);
     octets::copy_at(out, 0, t);
     t.len()
 }
@@ -50,7 +50,7 @@ pub extern "C" fn leaves_replaced_len(s: &[u8]) -> usize
     requires { ⌜ length (now s) ≤ 2 ^ 60 ⌝ }
     ensures { λ r. ⌜ r ≡ length (replaced (now (s .entry))) ⌝ }
 {
-    replace::replaced_len(s)
+    utf8::replace::replaced_len(s)
 }
 
 #[no_mangle]
@@ -59,7 +59,7 @@ pub extern "C" fn leaves_put_replaced(out: &mut [u8], s: &[u8]) -> usize
     ensures len { λ r. ⌜ r ≡ 0 + length (replaced (now (s .entry))) ⌝ }
     ensures bytes { λ _. ⌜ now (out .exit) ≡ pasted 0 (replaced (now (s .entry))) (now (out .entry)) ⌝ }
 {
-    replace::put_replaced(out, 0, s)
+    utf8::replace::put_replaced(out, 0, s)
 }
 
 #[no_mangle]
@@ -111,7 +111,7 @@ pub extern "C" fn leaves_find(text: &[u8], pattern: &[u8]) -> usize
     requires { ⌜ 0 < length (now pattern) ⌝ }
     ensures { λ r. ⌜ r ≡ place (now (pattern .entry)) (now (text .entry)) ⌝ }
 {
-    search::find(text, pattern)
+    sections::search::find(text, pattern)
 }
 
 #[no_mangle]
@@ -119,7 +119,7 @@ pub extern "C" fn leaves_find_plain(text: &[u8], pattern: &[u8]) -> usize
     requires { ⌜ 0 < length (now pattern) ⌝ }
     ensures { λ r. ⌜ r ≡ place (now (pattern .entry)) (now (text .entry)) ⌝ }
 {
-    search::find_plain(text, pattern)
+    sections::search::find_plain(text, pattern)
 }
 
 #[no_mangle]
@@ -127,7 +127,7 @@ pub extern "C" fn leaves_joined_len(rest: &[u8]) -> usize
     requires { ⌜ length (now rest) ≤ maxText ⌝ }
     ensures { λ r. ⌜ r ≡ length (joined (now (rest .entry))) ⌝ }
 {
-    bodies::joined_len(rest)
+    sections::bodies::joined_len(rest)
 }
 
 #[no_mangle]
@@ -135,7 +135,7 @@ pub extern "C" fn leaves_join_into(out: &mut [u8], rest: &[u8])
     requires { ⌜ 0 + length (joined (now rest)) ≤ length (now out) ⌝ }
     ensures { λ _. ⌜ now (out .exit) ≡ pasted 0 (joined (now (rest .entry))) (now (out .entry)) ⌝ }
 {
-    bodies::join_into(out, 0, rest)
+    sections::bodies::join_into(out, 0, rest)
 }
 
 #[no_mangle]
@@ -151,7 +151,7 @@ pub extern "C" fn leaves_shift(s: &mut [u8], from: usize, to: usize, n: usize)
     requires { ⌜ (from + n ≤ length (now s)) × (to + n ≤ length (now s)) ⌝ }
     ensures { λ _. ⌜ now (s .exit) ≡ pasted to (take n (drop from (now (s .entry)))) (now (s .entry)) ⌝ }
 {
-    shifting::shift(s, from, to, n)
+    octets::shifting::shift(s, from, to, n)
 }
 
 #[no_mangle]
@@ -165,33 +165,33 @@ pub extern "C" fn leaves_zero_fill(s: &mut [u8])
 pub extern "C" fn leaves_before(a: &[u8], b: &[u8]) -> bool
     ensures { λ r. ⌜ r ≡ before (now (a .entry)) (now (b .entry)) ⌝ }
 {
-    compare::before(a, b)
+    octets::compare::before(a, b)
 }
 
 #[no_mangle]
 pub extern "C" fn leaves_same(a: &[u8], b: &[u8]) -> bool
     ensures { λ r. ⌜ r ≡ same (now (a .entry)) (now (b .entry)) ⌝ }
 {
-    compare::same(a, b)
+    octets::compare::same(a, b)
 }
 
 #[no_mangle]
 pub extern "C" fn leaves_same_letters(a: &[u8], b: &[u8]) -> bool
     ensures { λ r. ⌜ r ≡ sameLetters (now (a .entry)) (now (b .entry)) ⌝ }
 {
-    compare::same_letters(a, b)
+    octets::compare::same_letters(a, b)
 }
 
 #[no_mangle]
 pub extern "C" fn leaves_says(text: &[u8], pattern: &[u8]) -> bool
     ensures { λ r. ⌜ r ≡ occurs (now (pattern .entry)) (map lower (now (text .entry))) ⌝ }
 {
-    compare::says(text, pattern)
+    octets::compare::says(text, pattern)
 }
 
 #[no_mangle]
 pub extern "C" fn leaves_find_byte(s: &[u8], c: u8) -> usize
     ensures { λ r. ⌜ r ≡ length (upTo c (now (s .entry))) ⌝ }
 {
-    finding::find_byte(s, c)
+    octets::finding::find_byte(s, c)
 }

@@ -1,1 +1,5 @@
+pub mod ContentsHeld
+pub mod Counting
+pub mod LoneHeader
 pub mod Looking
+pub mod TypeAndBody

@@ -1,6 +1,11 @@
 // Document 01, "Looking up": the values and parameters of a name. What is handed out is a part of the lent head store; `found`
 // tells an absent value from an empty one. Any record and any bytes may be lent, and any n asked for.
 
+pub mod accessors;
+pub mod alone;
+pub mod content_headers;
+pub mod counts;
+
 use format::CpimMessage;
 use named::headers_named;
 use nth::nth_name;

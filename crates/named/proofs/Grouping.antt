@@ -17,8 +17,8 @@ use Rattle.format.specs.declared.CpimMessage.{CpimMessage}
 use Rattle.format.proofs.Lists.{texts-append, total-append}
 use Rattle.format.proofs.Messages.Layout.{headers-length}
 use Rattle.format.proofs.Messages.Parts.{message-parts}
-use Rattle.groups.specs.Groups.{low, own, high, Grouped}
-use Rattle.groups.proofs.Groups.{parts, only-parts}
+use Rattle.entries.specs.Groups.{low, own, high, Grouped}
+use Rattle.entries.proofs.ByName.{parts, only-parts}
 use Rattle.held.specs.Holding.{messageHolds}
 use Rattle.held.specs.Decoding.{messageIn}
 use Rattle.held.proofs.Parts.{HeldParts, held-parts, cut}

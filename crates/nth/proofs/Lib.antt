@@ -1,3 +1,3 @@
-pub mod Places
 pub mod Counted
 pub mod Lists
+pub mod Places

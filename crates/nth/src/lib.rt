@@ -1,11 +1,11 @@
 // The n-th of some entries in a store, one behind another: its name, its value, its parameters; and the parameters of all counted.
 
 use entries::entry_len;
+use entries::groups::pass_first;
 use entries::name_at;
 use entries::param_count;
 use entries::tail_at;
 use entries::value_at;
-use groups::pass_first;
 use parts::absent;
 ghost use mathlib.Core.Path.{_≡_};
 ghost use mathlib.Core.Bool.{true};

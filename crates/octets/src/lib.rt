@@ -2,6 +2,10 @@
 // Each contract is an equation with a definition of crates/format/specs/Bytes.antt; proofs/Paste.antt has the laws of
 // `pasted`, by which every crate above says what it wrote.
 
+pub mod compare;
+pub mod finding;
+pub mod shifting;
+
 ghost use mathlib.Core.Path.{_≡_};
 ghost use Prim.Native.Nat.{_+_, _≤_};
 ghost use lib.ListN.{length, replicate};

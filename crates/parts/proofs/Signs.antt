@@ -8,7 +8,7 @@ use borrow.Author.Tests.{lt-ltb, le-ltb}
 use Rattle.format.specs.Bytes.{Bytes, upTo, less-sign, greater-sign}
 use Rattle.format.specs.LookingUp.{closed, address}
 use Rattle.format.proofs.Lists.{rest-is}
-use Rattle.finding.proofs.Find.{found-upTo, found-past, found-has}
+use Rattle.octets.proofs.Find.{found-upTo, found-past, found-has}
 
 -- the first `<`
 module _ (v : Bytes) (at : ℕ) (found : at ≡ length (upTo less-sign v)) where

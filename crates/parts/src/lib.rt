@@ -1,6 +1,6 @@
 // A part of lent bytes, or the answer that there is none. `found` tells an absent part from an empty one.
 
-use finding::find_byte;
+use octets::finding::find_byte;
 ghost use mathlib.Core.Option.{none, some};
 ghost use Prim.Native.Nat.{_-_, _≤_};
 ghost use lib.ListN.{length, take, drop};

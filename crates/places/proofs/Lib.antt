@@ -1,3 +1,8 @@
+pub mod Entries
 pub mod Fronts
-pub mod Laid
+pub mod Headers
 pub mod Held
+pub mod Laid
+pub mod NamedSpots
+pub mod Signs
+pub mod There

@@ -1,6 +1,10 @@
 // Where everything stands that is held: the name and the value of each header, parameter and content header, by four numbers each
 // (specs/Rows.antt). Any record and any bytes may be lent.
 
+pub mod by_name;
+pub mod spots;
+pub mod standing;
+
 use entries::name_len;
 use entries::param_count;
 use entries::value_len;

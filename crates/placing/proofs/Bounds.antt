@@ -13,9 +13,9 @@ use Rattle.format.specs.Lending.{headLent}
 use Rattle.format.specs.declared.CpimMessage.{CpimMessage}
 use Rattle.format.proofs.Messages.Parts.{message-parts}
 use Rattle.entries.specs.Stored.{storedSize, shapedAll, entriesIn}
-use Rattle.groups.specs.Passing.{under, ofName}
-use Rattle.groups.specs.Groups.{Grouped}
-use Rattle.groups.proofs.Placing.{grouped-headers, grouped-entries}
+use Rattle.entries.specs.Passing.{under, ofName}
+use Rattle.entries.specs.Groups.{Grouped}
+use Rattle.entries.proofs.Placing.{grouped-headers, grouped-entries}
 use Rattle.held.specs.Holding.{messageHolds, headersPart, contentsPart}
 use Rattle.held.specs.Decoding.{messageIn}
 use Rattle.held.proofs.Parts.{HeldParts, held-parts}

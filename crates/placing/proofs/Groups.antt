@@ -11,8 +11,8 @@ use Rattle.format.specs.Message.{without, ascending, increasing}
 use Rattle.format.proofs.Lists.{all-map, and-intro, total-append}
 use Rattle.format.proofs.Messages.Order.{before-asym}
 use Rattle.format.proofs.Messages.Keyed.{increasing-later, increasing-rest}
-use Rattle.groups.specs.Groups.{low, own, high, Grouped}
-use Rattle.groups.proofs.Groups.{parts, without-parts}
+use Rattle.entries.specs.Groups.{low, own, high, Grouped}
+use Rattle.entries.proofs.ByName.{parts, without-parts}
 use Rattle.store.specs.Spliced.{Parted}
 
 -- no name twice and in order: in order

@@ -1,10 +1,10 @@
 // Entries of a message that is held: where those of a name stand, and an entry put in their place or behind them. Bytes move
 // once; room is judged before the first one moves.
 
+use entries::groups::Group;
+use entries::groups::find_group;
 use format::Answer;
 use format::CpimMessage;
-use groups::Group;
-use groups::find_group;
 use store::Notation;
 use store::replace;
 ghost use mathlib.Core.Path.{_≡_};
@@ -16,7 +16,7 @@ ghost use Rattle.format.specs.Message.{Entry, Header, Message, entry, entryName
 ghost use Rattle.format.specs.Calls.{ifRoom, withHeaders, withContents};
 ghost use Rattle.format.specs.Layout.{Holds};
 ghost use Rattle.format.specs.Lending.{headLent, numbersOf};
-ghost use Rattle.groups.specs.Groups.{Grouped};
+ghost use Rattle.entries.specs.Groups.{Grouped};
 ghost use Rattle.store.specs.Notations.{valueRead, Sized};
 ghost use Rattle.store.specs.Spliced.{Parted};
 ghost use Rattle.held.specs.Holding.{messageHolds};

@@ -1,8 +1,11 @@
 // Document 01, "Writing": the parts of a text beside the headers' lines, over the bytes of an output. Each function writes from a place on
 // and gives the place behind what it wrote.
 
-use put_lines::put;
-use put_lines::put_contents;
+pub mod measure;
+pub mod put_lines;
+
+use crate::put_lines::put;
+use crate::put_lines::put_contents;
 ghost use mathlib.Core.Path.{_≡_};
 ghost use mathlib.Core.Bool.{true};
 ghost use mathlib.Core.List.{_++_};
@@ -54,5 +57,5 @@ pub fn put_body(out: &mut [u8], at: usize, body: &[u8], end: usize) -> usize
     if end == body.len() {
         return put(out, at, body);
     }
-    replace::put_replaced(out, at, body)
+    utf8::replace::put_replaced(out, at, body)
 }

@@ -1,2 +1,4 @@
+pub mod Looping
 pub mod Outcomes
+pub mod Steps
 pub mod Stores

@@ -17,7 +17,7 @@ use Rattle.format.specs.declared.Numbers.{Numbers}
 use Rattle.format.proofs.Steps.{accepted-same, refused-accepted, refuseUnless-passed, then-passed, bind-passed}
 use Rattle.format.proofs.Answers.{other-fails, then-refused, room-short, room-enough}
 use Rattle.message.proofs.Bodies.{new-need}
-use Rattle.section_lines.proofs.Looping.{other-refused}
+use Rattle.reading.proofs.Looping.{other-refused}
 use Rattle.reading.specs.Outcome.{ReadBy}
 
 module _ (l k : Lent) (n : Numbers) where

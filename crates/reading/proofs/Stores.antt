@@ -26,7 +26,7 @@ use Rattle.octets.proofs.Paste.{take-front}
 use Rattle.message.proofs.Bodies.{body-over, body-within}
 use Rattle.content_line.specs.Types.{typeBytes}
 use Rattle.content_line.proofs.Typing.{type-long, layout-type}
-use Rattle.section_lines.proofs.Looping.{zero-accepted, other-refused}
+use Rattle.reading.proofs.Looping.{zero-accepted, other-refused}
 use Rattle.reading.specs.Outcome.{ReadBy}
 use Rattle.reading.proofs.Outcomes.{by-refused, by-passed, by-accepted}
 

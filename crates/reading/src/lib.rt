@@ -1,17 +1,19 @@
-// Document 01, "Reading": `parse_cpim`. A text is judged (crate text_parts), its header lines and content lines are read into the head store
-// (crate section_lines), and its body is laid into the body store. A refused reading leaves zeros in both stores.
+// Document 01, "Reading": `parse_cpim`. A text is judged (`text_parts`), its header lines and content lines are read into the head store
+// (`section_lines`), and its body is laid into the body store. A refused reading leaves zeros in both stores.
 
-use bodies::join_into;
-use compare::says;
+mod section_lines;
+
+use crate::section_lines::read_contents;
+use crate::section_lines::read_headers;
 use content_line::put_type;
 use format::Answer;
 use format::CpimMessage;
 use held::MAX_BODY_SIZE;
 use message::nothing;
+use octets::compare::says;
 use octets::copy_at;
 use octets::zero_fill;
-use section_lines::read_contents;
-use section_lines::read_headers;
+use sections::bodies::join_into;
 use text_parts::Judgement;
 use text_parts::body_len;
 use text_parts::judge;

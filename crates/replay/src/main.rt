@@ -8,18 +8,18 @@
 // of the head store, and the body of the message held; its text. The last four are empty where the beginning is refused. The source made
 // the list: rust/beside/src/bin/record says how.
 
-use begun::new_and_run;
-use begun::read_and_run;
-use compare::same;
 use format::Answer;
 use format::CpimMessage;
 use io::print_decimal;
 use io::read_full;
 use io::write_all;
+use octets::compare::same;
 use reading::parse_cpim;
 use script::argument_at;
 use script::argument_end;
 use script::number_at;
+use sent::begun::new_and_run;
+use sent::begun::read_and_run;
 use writing::to_string;
 
 // The first n bytes, all of them where there are fewer.

@@ -20,8 +20,7 @@ use Rattle.script.specs.Script.{state, heldAlone, numberIn, whole, argument, ar
 use Rattle.script.proofs.Places.{end-some}
 use Rattle.script.proofs.Ends.{next-behind, next-store}
 use Rattle.script.proofs.Steps.{held-alone, body-step, header-step}
-use Rattle.text_calls.specs.Texts.{withOne}
-use Rattle.pair_calls.specs.Texts.{withTwo}
+use Rattle.running.specs.Texts.{withOne, withTwo}
 
 -- What stands behind the number of a whole call.
 module _ (t : Bytes) where

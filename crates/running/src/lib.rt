@@ -1,17 +1,20 @@
 // A script of changing calls, run on a message in lent stores: each call gets the record that the last handed back and the stores it
 // takes, as last left.
 
+mod pair_calls;
+mod text_calls;
+
+use crate::pair_calls::two_texts;
+use crate::text_calls::one_text;
 use adding::add_header_obj;
 use format::CpimHeader;
 use format::CpimMessage;
 use message::set_body;
-use pair_calls::two_texts;
 use script::argument_at;
 use script::argument_end;
 use script::call_end;
 use script::kind_of;
 use script::number_at;
-use text_calls::one_text;
 ghost use mathlib.Core.Path.{_≡_};
 ghost use mathlib.Core.Bool.{true};
 ghost use Prim.Native.Nat.{_+_, _<_};

@@ -11,9 +11,9 @@ use Rattle.format.specs.Bytes.{Bytes, CRLF, CRLFCRLF, occurs, pieces, split}
 use Rattle.format.specs.Reading.{separator, sections, lineEnd, lines}
 use Rattle.format.proofs.Lists.{bcase, rest-is}
 use Rattle.sections.specs.declared.Piece.{Piece}
-use Rattle.search.specs.Place.{place}
+use Rattle.sections.specs.Place.{place}
 use Rattle.sections.specs.Cuts.{cutOf, separatorFor, lineEndFor}
-use Rattle.search.proofs.Places.{place-le}
+use Rattle.sections.proofs.Matches.{place-le}
 use Rattle.sections.proofs.Found.{found-fits, found-pieces, none-pieces, none-occurs, some-occurs}
 
 -- the sections and the lines by what the two tests answer

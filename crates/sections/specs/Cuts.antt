@@ -6,7 +6,7 @@ use lib.ListN.{length, take, drop}
 use Rattle.format.specs.Bytes.{Bytes, if_then_else_, LF, CRLF, LFLF, CRLFCRLF, occurs, pieces, split}
 use Rattle.format.specs.Reading.{Parts, bodyOf}
 use Rattle.format.specs.Refusals.{tooFewSections, Out, accepted, refused}
-use Rattle.search.specs.Place.{place}
+use Rattle.sections.specs.Place.{place}
 use Rattle.sections.specs.declared.Piece.{Piece}
 use Rattle.sections.specs.declared.Places.{Places}
 use Rattle.sections.specs.declared.Places.the-variants.{Few, Four}

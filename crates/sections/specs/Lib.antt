@@ -1,1 +1,4 @@
+pub mod Block
+pub mod Body
 pub mod Cuts
+pub mod Place

@@ -1,7 +1,11 @@
 // Document 01, "Reading": a text cut at its first separator, its first three sections, a section's lines. "The rest of the
 // text after it is searched on": the part of the text that starts past a separator is handed to the search.
 
-use search::find;
+pub mod bodies;
+pub mod fields;
+pub mod search;
+
+use crate::search::find;
 ghost use mathlib.Core.Path.{_≡_};
 ghost use Prim.Native.Nat.{_<_};
 ghost use lib.ListN.{length};

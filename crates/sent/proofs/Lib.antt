@@ -1,1 +1,3 @@
+mod BegunWays
 mod Ways
+pub mod Trace

@@ -17,7 +17,7 @@ use Rattle.format.specs.declared.CpimMessage.{CpimMessage}
 use Rattle.format.specs.declared.Numbers.{Numbers}
 use Rattle.format.proofs.Steps.{refused-number}
 use Rattle.text_parts.specs.declared.LengthAnswer.{LengthAnswer}
-use Rattle.begun.specs.Began.{Began}
+use Rattle.sent.specs.Began.{Began}
 use Rattle.sent.specs.Sent.{sentText, Sent}
 
 module _ (o : Out Message) (stores : Stores) (calls : List Call) (u : Lent) (k : CpimMessage) (head body out written : Bytes) (n : Numbers) (r : LengthAnswer) (began : Began o stores calls u (bothLent k head body) n) where

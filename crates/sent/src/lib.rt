@@ -1,8 +1,10 @@
 // Demand 3 through the functions, to the end: a list of calls begun by a text read or by `new`, and then the text of the message that is
 // held. What is written is the text of the message that the beginning and the calls define.
 
-use begun::new_and_run;
-use begun::read_and_run;
+pub mod begun;
+
+use crate::begun::new_and_run;
+use crate::begun::read_and_run;
 use format::Answer;
 use text_parts::LengthAnswer;
 use writing::to_string;
@@ -14,7 +16,7 @@ ghost use Rattle.format.specs.Lending.{bothLent, lengths, zeroed};
 ghost use Rattle.format.specs.declared.CpimMessage.{CpimMessage};
 ghost use Rattle.format.specs.declared.Numbers.{Numbers};
 ghost use Rattle.script.specs.Script.{state, callsIn};
-ghost use Rattle.begun.specs.Began.{ReadThenRun, MadeThenRun};
+ghost use Rattle.sent.specs.Began.{ReadThenRun, MadeThenRun};
 ghost use Rattle.sent.specs.Sent.{Sent};
 
 // A refusal's numbers; nothing is written.

@@ -1,3 +1,10 @@
-pub mod Read
-mod Lines
 mod Cases
+mod Lines
+mod LinesPassed
+mod Names
+mod Parts
+mod TellingCases
+pub mod Digits
+pub mod Puts
+pub mod Read
+pub mod Rows

@@ -7,8 +7,8 @@ use lib.ListN.{length}
 use Rattle.format.specs.Bytes.{Bytes, ascii, pasted, LF, equals, lf}
 use Rattle.format.specs.Escaping.{escape}
 use Rattle.format.specs.Showing.{decimal, shown, showNumbers}
-use Rattle.decimals.specs.Put.{Put}
-use Rattle.decimals.proofs.Puts.{puts, puts-then, puts-as}
+use Rattle.showing.specs.Put.{Put}
+use Rattle.showing.proofs.Puts.{puts, puts-then, puts-as}
 use Rattle.showing.specs.Lines.{messageLines}
 
 -- a line: label, `=`, a text of at most n bytes, LF

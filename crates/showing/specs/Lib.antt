@@ -1,1 +1,4 @@
 pub mod Lines
+pub mod Put
+pub mod Telling
+pub mod Words

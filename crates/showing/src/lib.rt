@@ -1,13 +1,17 @@
 // Document 01, "Looking up": what the program `showcpim` prints for its input (crates/format/specs/Showing.antt), over the bytes of an
 // output.
 
-use accessors::content_type;
-use counts::count_params;
-use decimals::put_decimal;
+mod decimals;
+pub mod telling;
+mod words;
+
+use crate::decimals::put_decimal;
 use escape::escape_header_value;
 use format::CpimMessage;
-use put_lines::put;
-use put_lines::put_byte;
+use lookup::accessors::content_type;
+use lookup::counts::count_params;
+use put_parts::put_lines::put;
+use put_parts::put_lines::put_byte;
 use reading::parse_cpim;
 ghost use mathlib.Core.Path.{_≡_};
 ghost use mathlib.Core.Bool.{true};
@@ -20,7 +24,7 @@ ghost use Rattle.format.specs.Layout.{Holds};
 ghost use Rattle.format.specs.Lending.{headLent};
 ghost use Rattle.format.specs.Showing.{decimal, shown, showNumbers, showMessage, showcpim};
 ghost use Rattle.held.specs.Holding.{messageHolds};
-ghost use Rattle.decimals.specs.Put.{Put};
+ghost use Rattle.showing.specs.Put.{Put};
 ghost use Rattle.showing.specs.Lines.{messageLines};
 
 // A line of a label and a number.

@@ -253,7 +253,7 @@ fn with_lang() {
     let mut head = [0u8; 1024];
     let mut body = [0u8; 2];
     let m = message::new(b"text/plain", b"Hi", &mut head, &mut body);
-    let lang = builders::with_subject_lang(m.message, &mut head, b"Hi", b"en");
+    let lang = message::builders::with_subject_lang(m.message, &mut head, b"Hi", b"en");
     back(b"P7", lang.message, &head, &body);
 }
 

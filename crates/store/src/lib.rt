@@ -3,7 +3,7 @@
 
 use format::Numbers;
 use octets::copy_at;
-use shifting::shift;
+use octets::shifting::shift;
 use unescape::unescape_header_value;
 ghost use mathlib.Core.Path.{_≡_};
 ghost use mathlib.Core.Bool.{true};

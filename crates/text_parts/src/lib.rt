@@ -1,10 +1,10 @@
 // Document 01, "Reading": a text judged by 1, 24 and 2, and its parts by their places. "Looking up": the body without a store, in two
 // calls.
 
-use bodies::join_into;
-use bodies::joined_len;
 use held::MAX_BODY_SIZE;
 use sections::Places;
+use sections::bodies::join_into;
+use sections::bodies::joined_len;
 use sections::crlf_sections;
 use sections::first_three;
 use utf8::is_utf8;

@@ -1,1 +1,4 @@
+pub mod Escapes
+pub mod Hex
+pub mod Scalars
 pub mod Stretches

@@ -13,7 +13,7 @@ use Rattle.format.specs.Bytes.{Bytes, if_then_else_, all, upTo, pasted}
 use Rattle.format.specs.Escaping.{Escape, escapeAt, takesOf, inFront, escaped, unescapeFrom, unescape}
 use Rattle.format.proofs.Escaping.Unescape.{unescape-skip, behind-behind, plain, plain-read, sound}
 use Rattle.octets.proofs.Paste.{pasted-pasted}
-use Rattle.finding.proofs.Find.{found-within, found-upTo}
+use Rattle.octets.proofs.Find.{found-within, found-upTo}
 use Rattle.unescape.specs.Reads.{measured, valueOf}
 
 -- what stands before the first backslash has none

@@ -1,1 +1,3 @@
+pub mod Backslash
 pub mod Reads
+pub mod Values

@@ -2,12 +2,16 @@
 // and the bytes. The stretches between backslashes are read as they are, and each escape as the character that it stands
 // for.
 
-use backslash::Read;
-use backslash::escape_at;
-use coding::code_len;
-use coding::put_code;
-use finding::find_byte;
+mod backslash;
+mod coding;
+mod digits;
+
+use crate::backslash::Read;
+use crate::backslash::escape_at;
+use crate::coding::code_len;
+use crate::coding::put_code;
 use octets::copy_at;
+use octets::finding::find_byte;
 ghost use mathlib.Core.Path.{_≡_};
 ghost use mathlib.Core.Bool.{true};
 ghost use Prim.Native.Nat.{_+_, _≤_};

@@ -1,1 +1,4 @@
+pub mod ClearEnds
+pub mod LastChar
+pub mod Stripping
 pub mod WhiteSpace

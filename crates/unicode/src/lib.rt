@@ -1,4 +1,8 @@
 // Code points, white space and control characters (document 01, "Characters"), of any bytes.
+
+pub mod ends;
+pub mod trimming;
+
 ghost use mathlib.Core.Path.{_≡_};
 ghost use mathlib.Core.List.{[], _∷_};
 ghost use lib.Dec.{eqb};

@@ -17,8 +17,8 @@ use Rattle.format.proofs.Lists.{below, and-left, and-right}
 use Rattle.format.proofs.Characters.Chars.{ascii-whole, chars-ascii}
 use Rattle.characters.specs.Lengths.{subpartLen, charLen, utf8End, Passed}
 use Rattle.characters.proofs.Ends.{subpart-chars, subpart-inside, char-whole, char-ill, stays, passed-on, char-step, end-ill}
-use Rattle.utf8_blocks.specs.Blocks.{blocksEnd}
-use Rattle.utf8_blocks.proofs.Blocks.{blocks-end-passed}
+use Rattle.utf8.specs.Blocks.{blocksEnd}
+use Rattle.utf8.proofs.Passed.{blocks-end-passed}
 use Rattle.utf8.specs.Parts.{partEnd, goneOver, charsEnd}
 
 over-cons : (stop at : ℕ) (g : Bytes) (gs : List Bytes) → at < stop → wellFormed g ≡ true → goneOver stop at (g ∷ gs) ≡ goneOver stop (at + length g) gs

@@ -1,4 +1,9 @@
 // UTF-8 over whole texts: by blocks as far as they go, and characters one by one elsewhere.
+
+mod blocks;
+pub mod replace;
+mod soundness;
+
 ghost use mathlib.Core.Path.{_≡_};
 ghost use Prim.Native.Nat.{_≤_};
 ghost use lib.ListN.{length};
@@ -29,7 +34,7 @@ fn past_part(rows: &[[u8; 8]; 9], s: &[u8], from: usize, stop: usize) -> usize
     ensures { λ r. ⌜ r ≡ charsEnd (now (s .entry)) from stop ⌝ }
 {
     let part = &s[from..stop];
-    if utf8_blocks::largest(part) < 0x80 {
+    if crate::blocks::largest(part) < 0x80 {
         return stop;
     }
     past_chars(rows, s, from, stop)
@@ -53,7 +58,7 @@ pub fn utf8_end(s: &[u8], from: usize) -> usize
     let rows = characters::ROWS;
     let mut at = from;
     while at < s.len() {
-        let run = utf8_blocks::past_blocks(s, at);
+        let run = crate::blocks::past_blocks(s, at);
         let stop = block_end(s, run);
         let end = past_part(&rows, s, run, stop);
         if end < stop {
@@ -69,7 +74,7 @@ pub fn is_utf8(s: &[u8]) -> bool
     ensures { λ r. ⌜ r ≡ isUtf8 (now (s .entry)) ⌝ }
 {
     if s.len() < 64 {
-        if utf8_blocks::largest(s) < 0x80 {
+        if crate::blocks::largest(s) < 0x80 {
             return true;
         }
     }

@@ -1,8 +1,10 @@
 // Document 01, "Validators", under the source's names. Each answers with the refusal's number and what it carries, or with
 // 0 and 0; what each refuses, and in which order, is crates/format/specs/Validators.antt.
 
-use classes::Class;
-use classes::any_in;
+mod classes;
+
+use crate::classes::Class;
+use crate::classes::any_in;
 use format::Numbers;
 ghost use mathlib.Core.Path.{_≡_};
 ghost use Rattle.format.specs.Refusals.{numbers};

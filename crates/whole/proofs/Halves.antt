@@ -10,9 +10,9 @@ use Rattle.format.specs.Layout.{layoutEntry, layoutHeader}
 use Rattle.format.specs.Demand3.{noParam, notType, clearName, clearContent, clearValue}
 use Rattle.entries.specs.Stored.{entriesIn}
 use Rattle.nth.specs.Listed.{Listed}
-use Rattle.clauses.specs.Clauses.{meets, passing}
-use Rattle.clauses.specs.declared.Clause.the-variants.{NoParam, NotType, ClearName, ClearContent, ClearValue}
-use Rattle.clauses.proofs.Passing.{no-params, not-types, clear-names, clear-contents, clear-values}
+use Rattle.whole.specs.Clauses.{meets, passing}
+use Rattle.whole.specs.declared.clauses.Clause.the-variants.{NoParam, NotType, ClearName, ClearContent, ClearValue}
+use Rattle.whole.proofs.Passing.{no-params, not-types, clear-names, clear-contents, clear-values}
 use Rattle.whole.specs.Loss.{lost, none-lost, early, late}
 use Rattle.whole.proofs.Lossless.{clause-holds, clause-fails, each-holds, each-fails, headed, headless}
 

@@ -1,3 +1,5 @@
-pub mod Lossless
 pub mod Halves
+pub mod Lossless
+pub mod Passing
 pub mod Stores
+pub mod Walking

@@ -18,8 +18,8 @@ use Rattle.format.specs.Demand3.{hasHeader, noParam, notType, comesBack}
 use Rattle.format.proofs.Lists.{bcase, clash}
 use Rattle.format.proofs.Texts.RoundTrip.{reads-back}
 use Rattle.format.proofs.Texts.OnlyIf.{back-only}
-use Rattle.clauses.specs.Clauses.{passing}
-use Rattle.clauses.proofs.Passing.{passing-all, passing-some}
+use Rattle.whole.specs.Clauses.{passing}
+use Rattle.whole.proofs.Passing.{passing-all, passing-some}
 use Rattle.whole.specs.declared.Loss.{Loss}
 use Rattle.whole.specs.Loss.{lost, none-lost, clause, each, early, late, loss, lossHeld, wholeHeld, ReadsBack}
 

@@ -16,7 +16,7 @@ use Rattle.format.specs.Layout.{Lent, Holds}
 use Rattle.format.specs.Writing.{write}
 use Rattle.format.specs.Reading.{read}
 use Rattle.format.specs.Demand3.{hasHeader, noParam, notType, clearName, clearContent, clearValue, comesBack, RoomFor}
-use Rattle.clauses.specs.Clauses.{passing}
+use Rattle.whole.specs.Clauses.{passing}
 use Rattle.whole.specs.declared.Loss.{Loss}
 
 abbrev pub lost : ℕ → ℕ → Loss

@@ -1,11 +1,13 @@
 // Which messages come back whole (demand 3): yes or no for what is held, and where no, which clause of the condition fails first and for
 // which entry. Any record and any bytes may be lent.
 
-use clauses::Clause;
-use clauses::count_passing;
-use ends::clear_ends;
+mod clauses;
+
+use crate::clauses::Clause;
+use crate::clauses::count_passing;
 use format::CpimMessage;
 use held::message_holds;
+use unicode::ends::clear_ends;
 use utf8::is_utf8;
 ghost use mathlib.Core.Path.{_≡_};
 ghost use mathlib.Core.Bool.{true};

@@ -10,7 +10,7 @@ use Rattle.format.specs.Characters.{replaced}
 use Rattle.format.specs.Message.{Message}
 use Rattle.format.specs.Writing.{firstLine, headerLine, contentLine, typeLine, ended, write}
 use Rattle.octets.proofs.Written.{Written, written-none, written-length, written-all}
-use Rattle.put_lines.proofs.Parts.{part-room, part-put}
+use Rattle.put_parts.proofs.LineParts.{part-room, part-put}
 
 module _ (whole out a b c d e : Bytes) where
   -- the places behind the first four, and the output as each left it

@@ -60,7 +60,7 @@ pub fn put_headers<'a, 'b>(w: Writer<'a>, s: &'b [u8], count: usize) -> Writer<'
     ensures { λ r. ⌜ r ≡ wrote (w .entry) (texts (λ h. ended (headerLine h)) (headersFrom count (now (s .entry)))) ⌝ }
 {
     let at = w.at;
-    let next = put_lines::put_headers(&mut *w.out, at, s, count);
+    let next = put_parts::put_lines::put_headers(&mut *w.out, at, s, count);
     Writer {
         out: w.out,
         at: next,

@@ -12,9 +12,9 @@ use Rattle.entries.specs.Stored.{shapedAll}
 use Rattle.held.specs.Holding.{messageHolds}
 use Rattle.judging.specs.Listed.{entriesFrom, headersFrom}
 use Rattle.held.specs.Decoding.{messageIn}
-use Rattle.kinds.specs.declared.Kind.the-variants.{Content}
+use Rattle.judging.specs.declared.kinds.Kind.the-variants.{Content}
 use Rattle.judging.proofs.Entries.{holds-shaped}
-use Rattle.measure.proofs.Whole.{headersAt, contentsAt, headers-are, contents-are, numbered, contents-hold}
+use Rattle.put_parts.proofs.Whole.{headersAt, contentsAt, headers-are, contents-are, numbered, contents-hold}
 use Rattle.writer.specs.Parts.{messageOf}
 
 module _ (m : CpimMessage) (head : Bytes) (h : messageHolds m head ≡ true) where

@@ -3,7 +3,7 @@
 
 use format::CpimMessage;
 use held::message_holds;
-use measure::text_len;
+use put_parts::measure::text_len;
 use text_parts::LengthAnswer;
 use utf8::utf8_end;
 use writer::write_text;

@@ -56,7 +56,7 @@ fn name(record: Record, head: &[u8], n: usize) -> &str {
     text(&head[at])
 }
 
-/// The words of the program `wholecpim` (crates/words/specs/Words.antt): entries are counted from 1 here.
+/// The words of the program `wholecpim` (crates/showing/specs/Words.antt): entries are counted from 1 here.
 impl fmt::Display for Loss<'_> {
     fn fmt(&self, f: &mut fmt::Formatter<'_>) -> fmt::Result {
         let mut entry = |what: &str, n: &usize, name: &str, why: &str| {

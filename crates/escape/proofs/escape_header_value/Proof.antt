@@ -7,7 +7,7 @@ use borrow.Author.Needs.{needs}
 use Rattle.format.specs.Bytes.{Bytes, pasted}
 use Rattle.format.specs.Escaping.{escape}
 use Rattle.octets.proofs.Paste.{pasted-nil, length-pasted}
-use Rattle.forms.specs.Forms.{takesForm, widthForm, writtenForm}
+use Rattle.escape.specs.Forms.{takesForm, widthForm, writtenForm}
 use Rattle.escape.proofs.BareBytes.{bare-escape}
 use Rattle.escape.proofs.Turns.{width-written, takes-some, turn-within, turn-length, turn-pasted, escape-end}
 use Rattle.escape.proofs.escape_header_value.Statement.{statement}

@@ -9,8 +9,8 @@ use Rattle.format.specs.Characters.{trim}
 use Rattle.format.specs.Lending.{headLent}
 use Rattle.format.specs.Refusals.{accepted}
 use Rattle.format.specs.Message.{Entry}
-use Rattle.params.specs.Gathered.{Gathered}
-use Rattle.params.proofs.Yielding.{given}
+use Rattle.header_line.specs.Gathered.{Gathered}
+use Rattle.header_line.proofs.Yielding.{given}
 use Rattle.header_line.specs.Lines.{readLeft}
 use Rattle.header_line.proofs.Steps.{found-length, left-utf8, no-colon, left-refused, left-read, name-fits, name-is}
 use Rattle.header_line.proofs.read_header_line.Statement.{statement}

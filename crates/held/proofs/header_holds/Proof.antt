@@ -8,11 +8,11 @@ use borrow.Author.Tests.{not-false}
 use Rattle.format.specs.Bytes.{Bytes}
 use Rattle.format.specs.Characters.{isUtf8}
 use Rattle.format.specs.Refusals.{passes}
-use Rattle.kinds.specs.Kinds.{valueCheck}
+use Rattle.judging.specs.Kinds.{valueCheck}
 use Rattle.held.specs.Holding.{headerHolds}
-use Rattle.kinds.specs.declared.Kind.the-variants.{Header}
+use Rattle.judging.specs.declared.kinds.Kind.the-variants.{Header}
 use Rattle.held.proofs.Alone.{Sized, sizes-parts}
-use Rattle.kinds.proofs.Tests.{fails, goes-on}
+use Rattle.judging.proofs.InTurn.{fails, goes-on}
 use Rattle.held.proofs.Parts.{part-of}
 use Rattle.held.proofs.header_holds.Statement.{statement}
 use Rattle.held.proofs.header_holds.Tie as tie

@@ -8,9 +8,9 @@ use borrow.Author.Needs.{needs}
 use borrow.Author.Tests.{not-false}
 use Rattle.judging.specs.Judging.{entriesHold, headersHold}
 use Rattle.held.specs.Holding.{messageHolds}
-use Rattle.kinds.specs.declared.Kind.the-variants.{Content}
+use Rattle.judging.specs.declared.kinds.Kind.the-variants.{Content}
 use Rattle.held.proofs.Messages.{Numbered, numbers-parts}
-use Rattle.kinds.proofs.Tests.{fails, goes-on}
+use Rattle.judging.proofs.InTurn.{fails, goes-on}
 use Rattle.held.proofs.Parts.{part-of}
 use Rattle.held.proofs.message_holds.Statement.{statement}
 use Rattle.held.proofs.message_holds.Tie as tie

@@ -8,7 +8,7 @@ use lib.Seq.{take-all}
 use borrow.Author.Needs.{needs}
 use Rattle.format.specs.Bytes.{all}
 use Rattle.held.specs.Holding.{typeHolds}
-use Rattle.kinds.proofs.Tests.{fails, goes-on, number-fails, number-on}
+use Rattle.judging.proofs.InTurn.{fails, goes-on, number-fails, number-on}
 use Rattle.held.proofs.type_holds.Statement.{statement}
 use Rattle.held.proofs.type_holds.Tie as tie
 

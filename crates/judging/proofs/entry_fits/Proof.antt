@@ -4,7 +4,7 @@ use lib.ListN.{drop}
 use borrow.Author.Needs.{needs}
 use Rattle.entries.specs.Stored.{valueIn, tailIn, paramCount}
 use Rattle.entries.proofs.Shapes.{within-numbers}
-use Rattle.kinds.proofs.Tests.{fails, goes-on}
+use Rattle.judging.proofs.InTurn.{fails, goes-on}
 use Rattle.judging.proofs.Tests.{fits-read}
 use Rattle.judging.proofs.entry_fits.Statement.{statement}
 use Rattle.judging.proofs.entry_fits.Tie as tie

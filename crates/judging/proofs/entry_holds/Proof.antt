@@ -2,9 +2,9 @@
 use mathlib.Core.Path.{sym, ap, _∙_}
 use borrow.Author.Needs.{needs}
 use borrow.Author.Tests.{not-false}
-use Rattle.kinds.specs.Kinds.{follows}
+use Rattle.judging.specs.Kinds.{follows}
 use Rattle.judging.specs.Judging.{entryHolds}
-use Rattle.kinds.proofs.Tests.{fails, goes-on}
+use Rattle.judging.proofs.InTurn.{fails, goes-on}
 use Rattle.judging.proofs.entry_holds.Statement.{statement}
 use Rattle.judging.proofs.entry_holds.Tie as tie
 

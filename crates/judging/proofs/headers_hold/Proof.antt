@@ -4,9 +4,9 @@ use mathlib.Core.List.{[]}
 use borrow.Author.Needs.{needs}
 use borrow.Author.Tests.{not-false}
 use Rattle.judging.specs.Judging.{headersHold}
-use Rattle.kinds.specs.declared.Kind.the-variants.{Header}
+use Rattle.judging.specs.declared.kinds.Kind.the-variants.{Header}
 use Rattle.judging.proofs.Entries.{holds-shaped}
-use Rattle.kinds.proofs.Tests.{fails, goes-on}
+use Rattle.judging.proofs.InTurn.{fails, goes-on}
 use Rattle.judging.proofs.headers_hold.Statement.{statement}
 use Rattle.judging.proofs.headers_hold.Tie as tie
 

@@ -6,7 +6,7 @@ use lib.ListN.{length, take, drop}
 use borrow.Author.Needs.{needs}
 use Rattle.format.specs.Bytes.{Bytes, less-sign, greater-sign}
 use Rattle.format.specs.LookingUp.{closed, address}
-use Rattle.finding.proofs.Find.{found-within}
+use Rattle.octets.proofs.Find.{found-within}
 use Rattle.parts.proofs.Signs.{not-opened, opened, not-closed, closed-at}
 use Rattle.parts.proofs.address.Statement.{statement}
 use Rattle.parts.proofs.address.Tie as tie

@@ -5,7 +5,7 @@ use native.Mathlib.Omega.{arith}
 use lib.ListN.{length}
 use borrow.Author.Needs.{needs}
 use Rattle.held.proofs.Cases.{used-within}
-use Rattle.counts.proofs.Counts.{headers-few, headers-in-order}
+use Rattle.lookup.proofs.Counting.{headers-few, headers-in-order}
 use Rattle.places.specs.Fronts.{rowsHeld}
 use Rattle.places.proofs.Held.{few}
 use Rattle.places.proofs.row_count.Statement.{statement}

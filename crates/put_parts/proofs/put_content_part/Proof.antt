@@ -6,7 +6,7 @@ use Rattle.format.specs.Bytes.{Bytes, CRLF, texts}
 use Rattle.format.specs.Writing.{typeLine, contentLine, ended}
 use Rattle.octets.proofs.Written.{Written, written-none, written-length, written-all}
 use Rattle.judging.specs.Listed.{entriesFrom}
-use Rattle.put_lines.proofs.Parts.{part-room, part-put}
+use Rattle.put_parts.proofs.LineParts.{part-room, part-put}
 use Rattle.put_parts.proofs.Parts.{opening, content-parts}
 use Rattle.put_parts.proofs.put_content_part.Statement.{statement}
 use Rattle.put_parts.proofs.put_content_part.Tie as tie

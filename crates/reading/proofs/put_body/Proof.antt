@@ -9,8 +9,8 @@ use Rattle.format.specs.Bytes.{Bytes, pasted}
 use Rattle.format.specs.Lending.{numbersOf}
 use Rattle.format.proofs.Lists.{rest-is}
 use Rattle.octets.proofs.Paste.{pasted-start}
-use Rattle.bodies.specs.Body.{joined}
-use Rattle.bodies.proofs.Joining.{body-crlf}
+use Rattle.sections.specs.Body.{joined}
+use Rattle.sections.proofs.Joining.{body-crlf}
 use Rattle.text_parts.specs.Judging.{bodyBehind}
 use Rattle.reading.proofs.Stores.{body-long, body-short, body-laid}
 use Rattle.reading.proofs.put_body.Statement.{statement}

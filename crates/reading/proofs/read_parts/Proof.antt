@@ -19,8 +19,8 @@ use Rattle.sections.specs.Cuts.{separatorFor}
 use Rattle.sections.proofs.Sections.{Three}
 use Rattle.text_parts.specs.Judging.{bodyBehind}
 use Rattle.text_parts.proofs.Judging.{three, parts-stand, sections-stand}
-use Rattle.section_lines.specs.Lines.{LinesRead}
-use Rattle.section_lines.proofs.Looping.{zero-accepted}
+use Rattle.reading.specs.Lines.{LinesRead}
+use Rattle.reading.proofs.Looping.{zero-accepted}
 use Rattle.reading.proofs.Outcomes.{headers-same, contents-same, no-cpim, no-room, headers-stop, contents-stop, body-decides}
 use Rattle.reading.proofs.Stores.{by-same}
 use Rattle.reading.proofs.read_parts.Statement.{statement}

@@ -1,7 +1,7 @@
 -- `showing::put_held` meets its contract: the numbers of what is held are those of the message. Assumes nothing.
 use native.Mathlib.Omega.{arith}
 use borrow.Author.Needs.{needs}
-use Rattle.decimals.proofs.Puts.{puts-as}
+use Rattle.showing.proofs.Puts.{puts-as}
 use Rattle.showing.proofs.Cases.{kind-short, held-lines}
 use Rattle.showing.proofs.put_held.Statement.{statement}
 use Rattle.showing.proofs.put_held.Tie as tie

@@ -5,7 +5,7 @@ use lib.ListN.{length}
 use borrow.Author.Needs.{needs}
 use Rattle.format.specs.Escaping.{escape}
 use Rattle.format.proofs.Escaping.Escape.{escape-length}
-use Rattle.decimals.proofs.Puts.{puts}
+use Rattle.showing.proofs.Puts.{puts}
 use Rattle.showing.proofs.Lines.{line-put}
 use Rattle.showing.proofs.put_text.Statement.{statement}
 use Rattle.showing.proofs.put_text.Tie as tie

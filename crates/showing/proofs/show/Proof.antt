@@ -1,7 +1,7 @@
 -- `showing::show` meets its contract: an input that is too long, refused, or accepted. Assumes nothing.
 use native.Mathlib.Omega.{arith}
 use borrow.Author.Needs.{needs}
-use Rattle.decimals.proofs.Puts.{puts-then, puts-as}
+use Rattle.showing.proofs.Puts.{puts-then, puts-as}
 use Rattle.showing.proofs.Read.{in-store, read-holds}
 use Rattle.showing.proofs.Cases.{too-long, shown-refused, shown-accepted}
 use Rattle.showing.proofs.show.Statement.{statement}

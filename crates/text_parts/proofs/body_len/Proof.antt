@@ -6,8 +6,8 @@ use Prim.Native.Nat.{ℕ}
 use lib.ListN.{length, drop, length-drop}
 use borrow.Author.Needs.{needs}
 use Rattle.format.proofs.Lists.{rest-is}
-use Rattle.bodies.specs.Body.{joined}
-use Rattle.bodies.proofs.Joining.{body-crlf}
+use Rattle.sections.specs.Body.{joined}
+use Rattle.sections.proofs.Joining.{body-crlf}
 use Rattle.text_parts.specs.Judging.{bodyBehind}
 use Rattle.text_parts.proofs.body_len.Statement.{statement}
 use Rattle.text_parts.proofs.body_len.Tie as tie

@@ -9,7 +9,7 @@ use Rattle.format.specs.Reading.{Parts}
 use Rattle.sections.specs.declared.Places.the-variants.{Four}
 use Rattle.text_parts.specs.Judging.{Stands, Judged, bodyBehind}
 use Rattle.format.proofs.Lists.{rest-is, clash}
-use Rattle.bodies.proofs.Joining.{body-crlf}
+use Rattle.sections.proofs.Joining.{body-crlf}
 use Rattle.text_parts.proofs.Judging.{three, parts-stand}
 use Rattle.text_parts.proofs.Bodies.{part-none, part-long, part-inside, part-over, part-outside}
 use Rattle.text_parts.proofs.Ends.{empty-behind, rest-behind}

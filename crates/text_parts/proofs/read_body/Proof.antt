@@ -11,7 +11,7 @@ use Rattle.text_parts.specs.Judging.{Stands, Judged, bodyBehind}
 use Rattle.format.proofs.Lists.{rest-is}
 use Rattle.format.specs.Bytes.{Bytes, pasted}
 use Rattle.octets.proofs.Paste.{pasted-start}
-use Rattle.bodies.specs.Body.{joined}
+use Rattle.sections.specs.Body.{joined}
 use Rattle.text_parts.proofs.Judging.{three, parts-stand}
 use Rattle.text_parts.proofs.Bodies.{found-none, found-long, found-inside, found-short, found-outside}
 use Rattle.text_parts.proofs.read_body.Statement.{statement}

@@ -12,7 +12,7 @@ use Rattle.format.specs.Characters.{encoding}
 use Rattle.format.specs.Escaping.{escapeAt, inFront, unescape}
 use Rattle.format.proofs.Escaping.Unescape.{behind-nil}
 use Rattle.octets.proofs.Paste.{pasted-nil, length-pasted}
-use Rattle.backslash.specs.Reads.{escapeOf, codeOf}
+use Rattle.unescape.specs.Backslash.{escapeOf, codeOf}
 use Rattle.unescape.proofs.Stretches.{stretch-within, read-stretch, read-end, read-refused, read-escape, escape-within, not-refused, front-room, stretch-length, behind-written}
 use Rattle.unescape.proofs.unescape_header_value.Statement.{statement}
 use Rattle.unescape.proofs.unescape_header_value.Tie as tie

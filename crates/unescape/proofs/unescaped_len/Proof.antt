@@ -11,7 +11,7 @@ use Rattle.format.specs.Bytes.{Bytes, upTo}
 use Rattle.format.specs.Characters.{encoding}
 use Rattle.format.specs.Escaping.{escapeAt, inFront, unescape}
 use Rattle.format.proofs.Escaping.Unescape.{behind-nil}
-use Rattle.backslash.specs.Reads.{escapeOf}
+use Rattle.unescape.specs.Backslash.{escapeOf}
 use Rattle.unescape.specs.Reads.{measured}
 use Rattle.unescape.proofs.Stretches.{stretch-within, read-end, read-refused, read-escape, escape-within, measured-some, stretch-length}
 use Rattle.unescape.proofs.unescaped_len.Statement.{statement}

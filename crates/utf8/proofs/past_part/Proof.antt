@@ -5,8 +5,8 @@ use Prim.Native.Nat.{_-_, _<_}
 use native.Mathlib.Omega.{arith}
 use lib.ListN.{take, drop}
 use borrow.Author.Needs.{needs}
-use Rattle.utf8_blocks.specs.Blocks.{largestOf}
-use Rattle.utf8_blocks.proofs.Answers.{ascii-is}
+use Rattle.utf8.specs.Blocks.{largestOf}
+use Rattle.utf8.proofs.Answers.{ascii-is}
 use Rattle.utf8.proofs.Parts.{chars-ascii-part}
 use Rattle.utf8.proofs.past_part.Statement.{statement}
 use Rattle.utf8.proofs.past_part.Tie as tie

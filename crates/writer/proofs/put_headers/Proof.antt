@@ -52,10 +52,10 @@ use Rattle.writer.proofs.Writer as T
 use Rattle.writer.proofs.Writer.Laws as T′
 use Rattle.writer.proofs.Held.{writer-spent, writer-spent-goes}
 use Rattle.writer.proofs.Again.{LentAgain, lends-again, comes-back}
-use Rattle.put_lines.proofs.put_headers as core
-use Rattle.put_lines.proofs.put_headers.Symbol as core-def
-use Rattle.put_lines.proofs.put_headers.Symbol.{name as #put-lines·put-headers}
-use Rattle.put_lines.proofs.put_headers.Met as core-thm
+use Rattle.put_parts.proofs.put_lines.put_headers as core
+use Rattle.put_parts.proofs.put_lines.put_headers.Symbol as core-def
+use Rattle.put_parts.proofs.put_lines.put_headers.Symbol.{name as #put-parts·put-lines·put-headers}
+use Rattle.put_parts.proofs.put_lines.put_headers.Met as core-thm
 use Rattle.writer.proofs.put_headers.Key.{name as #writer·put-headers}
 use Rattle.writer.proofs.put_headers as put-headers
 use Rattle.writer.proofs.put_headers.Statement as stated
@@ -134,7 +134,7 @@ module _ {M : Type 1} (𝓤 : URA M) (H : Heap 𝓤) (A : Atoms 𝓤) (W : Given
       use1 W (‵ (inStruct (MutSlice (named 0) κ u8 ∷ usize ∷ []) (mach n ∷ []) had)) (makes 𝓤 H A W (MutSlice (named 0) κ u8 ∷ usize ∷ []) had (s ∷ [], (vint w64 n ∷ [], tt))) $
       nothing ! $ owned ! usize (Is usize) (uint-makes 𝓤 H A W w64) count _ (refl, count-fits) $ fjoin ! $ move ! (3 ∷ 0 ∷ []) $ fjoin ! $ move ! (1 ∷ 0 ∷ []) $ fjoin ! $ done !
 
-  module _ (C : Calls 𝓤 H) (Λ : Loops 𝓤 H) (fm : FmC 𝓤 H (W .laws) C) (known : Triple 𝓤 (C #put-lines·put-headers) (Core 𝓤 H A mem run)) where
+  module _ (C : Calls 𝓤 H) (Λ : Loops 𝓤 H) (fm : FmC 𝓤 H (W .laws) C) (known : Triple 𝓤 (C #put-parts·put-lines·put-headers) (Core 𝓤 H A mem run)) where
     walk : Is (T.the-row α) h (mach n ∷ []) → Room u8 (length ys) → Is (ShrSlice (named 1) κ₁ u8) y (t₁ ∷ []) → (headersHold count (y .now) ≡ true) × (n + length (texts (λ h. ended (headerLine h)) (headersFrom count (y .now))) ≤ length ys)
         → ent 𝓤 (onEntry 𝓤 H A put-headers.signature (κ, (κ₁, tt)) (q, (q₁, tt)) a vals) (WpFn 𝓤 H C Λ code.function (mach n ∷ t₁ ∷ vint w64 count ∷ []) Post)
     walk g room y-is within =
@@ -169,14 +169,14 @@ module _ {M : Type 1} (𝓤 : URA M) (H : Heap 𝓤) (A : Atoms 𝓤) (W : Given
         keep ! (1 ∷ 2 ∷ 0 ∷ 5 ∷ []) $ by ! (exits r (zs .0) e d (is .1))))))))))))))))))))))
 
 module _ {M : Type 1} (𝓤 : URA M) (H : Heap 𝓤) (A : Atoms 𝓤) (W : Given 𝓤 H A) (mem : Memory → SProp 𝓤) (run : Routine → Fun 𝓤) where
-  put-headers-walks : (C : Calls 𝓤 H) (Λ : Loops 𝓤 H) → FmC 𝓤 H (W .laws) C → Triple 𝓤 (C #put-lines·put-headers) (Core 𝓤 H A mem run) → Walks 𝓤 H A put-headers.ended stayed (WpFn 𝓤 H C Λ code.function) (put-headers.clauses 𝓤 H A mem run)
+  put-headers-walks : (C : Calls 𝓤 H) (Λ : Loops 𝓤 H) → FmC 𝓤 H (W .laws) C → Triple 𝓤 (C #put-parts·put-lines·put-headers) (Core 𝓤 H A mem run) → Walks 𝓤 H A put-headers.ended stayed (WpFn 𝓤 H C Λ code.function) (put-headers.clauses 𝓤 H A mem run)
   put-headers-walks C Λ fm known = walked 𝓤 H A put-headers.ended stayed (put-headers.clauses 𝓤 H A mem run) (WpFn 𝓤 H C Λ code.function)
       (λ κs. (LL.vals (T.the-type (namedLft 2 0 tt κs)) (T′.the-laws (namedLft 2 0 tt κs)), (slice-vals, (uint-vals w64, tt)))) (λ κs. (LL.tells (T.the-type (namedLft 2 0 tt κs)) (T′.the-laws (namedLft 2 0 tt κs)), (shr-slice-tells (named 1) (κs .1 .0) u8, (uint-tells w64, tt))))
       (λ κs qs bounds a g are. needs 𝓤 ((headersHold (a .1 .1 .0) (a .1 .0 .now) ≡ true) × ((a .0 .at) + length (texts (λ h. ended (headerLine h)) (headersFrom (a .1 .1 .0) (a .1 .0 .now))) ≤ length (a .0 .out .now))) _ (λ within.
       let fields = LL.owed (T.the-type (namedLft 2 0 tt κs)) (T′.the-laws (namedLft 2 0 tt κs)) (a .0) _ (are .0) in
       walk 𝓤 H A W mem run (κs .0) (κs .1 .0) (qs .0) (qs .1 .0) (a .0 .out .ptr .0) (a .0 .out .ptr .1) (a .0 .out .name) (a .0 .out .now) (a .0 .at) (fields .1 .0 .1) (a .1 .0) (a .1 .1 .0) (are .1 .1 .0 .1) C Λ fm known (are .0) (fields .0 .0 .1) (are .1 .0) within))
 
-put-headers-meets : {M : Type 1} (𝓤 : URA M) (H : Heap 𝓤) (A : Atoms 𝓤) → Given 𝓤 H A → (mem : Memory → SProp 𝓤) (run : Routine → Fun 𝓤) (𝓣 : Tables 𝓤 H) → Triple 𝓤 (𝓣 .C #put-lines·put-headers) (Core 𝓤 H A mem run)
+put-headers-meets : {M : Type 1} (𝓤 : URA M) (H : Heap 𝓤) (A : Atoms 𝓤) → Given 𝓤 H A → (mem : Memory → SProp 𝓤) (run : Routine → Fun 𝓤) (𝓣 : Tables 𝓤 H) → Triple 𝓤 (𝓣 .C #put-parts·put-lines·put-headers) (Core 𝓤 H A mem run)
     → Meets 𝓤 H A put-headers.signature (WpFn 𝓤 H (𝓣 .C) (𝓣 .Λ) code.function) (put-headers.spec 𝓤 H A mem run)
 put-headers-meets 𝓤 H A W mem run 𝓣 known =
     walk-meets 𝓤 H A put-headers.ended stayed W (writer-spent-goes 1 𝓤 H A W, (goes-none-slice 𝓤 H A W 2 (1 ∷ []) tt (plain (λ _. u8)) yes, (goes-none 𝓤 H A W 2 (λ _. usize) yes (λ κs x f. refl), tt))) (put-headers.clauses 𝓤 H A mem run)
@@ -188,4 +188,4 @@ put-headers-spec 𝓤 H 𝓜 𝓖 𝓡 =
     entered 𝓤 H (tripleOf 𝓤 H (𝓖 .A) put-headers.signature (put-headers.spec 𝓤 H (𝓖 .A) (𝓜 .mem) (𝓡 .run)))
     (tables 𝓤 H 𝓜 𝓡 code.env .C) (tables 𝓤 H 𝓜 𝓡 code.env .Λ) #writer·put-headers code.function (code.unfolded 𝓤 H 𝓜 𝓡)
     (put-headers-meets 𝓤 H (𝓖 .A) (givenOf 𝓤 H 𝓜 𝓖) (𝓜 .mem) (𝓡 .run) (tablesOf 𝓤 H 𝓜 (tables 𝓤 H 𝓜 𝓡 code.env))
-    (cited 𝓤 H (Core 𝓤 H (𝓖 .A) (𝓜 .mem) (𝓡 .run)) 𝓜 𝓡 code.env #put-lines·put-headers core-def.routine code.calls-put-lines·put-headers (core-thm.met 𝓤 H 𝓜 𝓖 𝓡)))
+    (cited 𝓤 H (Core 𝓤 H (𝓖 .A) (𝓜 .mem) (𝓡 .run)) 𝓜 𝓡 code.env #put-parts·put-lines·put-headers core-def.routine code.calls-put-parts·put-lines·put-headers (core-thm.met 𝓤 H 𝓜 𝓖 𝓡)))

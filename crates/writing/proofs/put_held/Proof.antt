@@ -9,7 +9,7 @@ use Rattle.format.specs.Message.{Message}
 use Rattle.format.specs.Writing.{write}
 use Rattle.octets.proofs.Paste.{pasted-start}
 use Rattle.held.specs.Decoding.{messageIn}
-use Rattle.measure.proofs.Whole.{numbered, headers-hold}
+use Rattle.put_parts.proofs.Whole.{numbered, headers-hold}
 use Rattle.writing.proofs.Held.{contents-shaped, type-within, slices-are}
 use Rattle.writing.proofs.put_held.Statement.{statement}
 use Rattle.writing.proofs.put_held.Tie as tie

@@ -8,7 +8,7 @@ use lib.Seq.{length-take-le}
 use borrow.Author.Needs.{needs}
 use borrow.Author.Tests.{not-true, not-false}
 use Rattle.held.specs.Holding.{messageHolds}
-use Rattle.measure.proofs.Whole.{numbered}
+use Rattle.put_parts.proofs.Whole.{numbered}
 use Rattle.writing.proofs.Ways.{wrote-unheld, wrote-short, wrote-full, wrote-text}
 use Rattle.writing.proofs.to_string.Statement.{statement}
 use Rattle.writing.proofs.to_string.Tie as tie

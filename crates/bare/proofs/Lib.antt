@@ -1,2 +1,0 @@
-pub mod ByKind
-pub mod Parts

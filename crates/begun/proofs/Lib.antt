@@ -1,2 +1,0 @@
-pub mod Trace
-mod Ways

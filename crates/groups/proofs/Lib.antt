@@ -1,4 +1,0 @@
-pub mod Passing
-pub mod Walks
-pub mod Groups
-pub mod Placing

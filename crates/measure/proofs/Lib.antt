@@ -1,4 +1,0 @@
-pub mod Passing
-pub mod Headed
-pub mod Lengths
-pub mod Whole

@@ -1,5 +1,0 @@
-pub mod Yielding
-pub mod Setting
-pub mod Parting
-pub mod Turns
-pub mod Gathering

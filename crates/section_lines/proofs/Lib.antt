@@ -1,2 +1,0 @@
-pub mod Looping
-pub mod Steps

@@ -1,2 +1,0 @@
-pub mod LastChar
-pub mod Trimming

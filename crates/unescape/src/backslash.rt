@@ -1,0 +1,72 @@
+// Document 01, "Escaping": one escape behind its backslash, and which code point it stands for.
+
+use crate::digits::four_digits;
+ghost use mathlib.Core.Path.{_≡_};
+ghost use Prim.Native.Nat.{_≤_, _<_};
+ghost use lib.ListN.{length, drop};
+ghost use Rattle.format.specs.Escaping.{longEscape, shortEscape, escapeAt};
+ghost use Rattle.unescape.specs.Backslash.{scalarOf, escapeOf, codeOf};
+
+// What stands behind a backslash: the code point of an escape and how many bytes it takes there, or no escape.
+pub enum Read {
+    Code(u32, usize),
+    Nothing,
+}
+
+// A code point behind `\u`: a surrogate is none.
+fn scalar(n: u32) -> Read
+    requires { ⌜ n ≤ 65536 ⌝ }
+    ensures { λ r. ⌜ (escapeOf r ≡ scalarOf n) × (codeOf r < 65536) ⌝ }
+{
+    if n < 55296 {
+        return Read::Code(n, 5);
+    }
+    if n < 57344 {
+        return Read::Nothing;
+    }
+    if n == 65536 {
+        return Read::Nothing;
+    }
+    Read::Code(n, 5)
+}
+
+// The four bytes behind `\u`, from i on.
+fn long_escape(s: &[u8], i: usize) -> Read
+    requires { ⌜ i ≤ length (now s) ⌝ }
+    ensures { λ r. ⌜ (escapeOf r ≡ longEscape (drop i (now (s .entry)))) × (codeOf r < 65536) ⌝ }
+{
+    if s.len() - i < 4 {
+        return Read::Nothing;
+    }
+    scalar(four_digits(s[i], s[i + 1], s[i + 2], s[i + 3]))
+}
+
+// The letter of a short form.
+fn short_escape(c: u8) -> Read
+    ensures { λ r. ⌜ (escapeOf r ≡ shortEscape c) × (codeOf r < 65536) ⌝ }
+{
+    match c {
+        92 => Read::Code(92, 1),
+        34 => Read::Code(34, 1),
+        98 => Read::Code(8, 1),
+        116 => Read::Code(9, 1),
+        110 => Read::Code(10, 1),
+        114 => Read::Code(13, 1),
+        _ => Read::Nothing,
+    }
+}
+
+// The escape whose bytes behind the backslash begin at i.
+pub fn escape_at(s: &[u8], i: usize) -> Read
+    requires { ⌜ i ≤ length (now s) ⌝ }
+    ensures { λ r. ⌜ (escapeOf r ≡ escapeAt (drop i (now (s .entry)))) × (codeOf r < 65536) ⌝ }
+{
+    if s.len() <= i {
+        return Read::Nothing;
+    }
+    let c = s[i];
+    if c == 117 {
+        return long_escape(s, i + 1);
+    }
+    short_escape(c)
+}

@@ -1,0 +1,68 @@
+-- `unicode::trimming::back_end` meets its contract. The invariant: dropping white space at the back gives the same up to the place
+-- reached.
+-- Assumes nothing.
+use mathlib.Core.Path.{_≡_, sym, ap, _∙_}
+use mathlib.Core.List.{List}
+use Prim.Native.Nat.{ℕ, _≤_}
+use native.Mathlib.Omega.{arith}
+use lib.ListN.{length, take}
+use borrow.Author.Needs.{needs}
+use lib.Seq.{take-length, length-take-le}
+use Rattle.format.specs.Characters.{chars, isWhite, dropBack, flat}
+use Rattle.unicode.proofs.Stripping.{back-inside, back-on, back-stop}
+use Rattle.unicode.proofs.trimming.back_end.Statement.{statement}
+use Rattle.unicode.proofs.trimming.back_end.Tie as tie
+
+abbrev Inv-loop : tie.InvT-loop
+Inv-loop s end₀ end = (end ≤ length s) × (dropBack isWhite (chars s) ≡ dropBack isWhite (chars (take end s)))
+
+abbrev μ-loop : tie.MeasureT-loop
+μ-loop s end₀ end = end
+
+loop-holds : tie.Need-loop-holds Inv-loop μ-loop
+loop-holds c = (omega arith, ap (λ (x : List ℕ). dropBack isWhite (chars x)) (sym (take-length (c .before .args .s .now))))
+
+slice-aggregate-white-back : tie.Need-slice-aggregate-white-back Inv-loop μ-loop
+slice-aggregate-white-back c = sym (length-take-le (c .before .loop .end) (c .before .before .before .args .s .now) (c .before .loop .inv .0))
+
+white-back-requires : tie.Need-white-back-requires Inv-loop μ-loop
+white-back-requires c κs = search needs
+
+returns : tie.Need-returns Inv-loop μ-loop
+returns c =
+    let step = c .before .white-back in
+    let s = c .before .before .before .before .before .args .s .now in
+    let loop = c .before .before .before .loop in
+    (loop .inv .0, ap flat (loop .inv .1) ∙ back-stop s (loop .end) (step .result) (loop .inv .0) (step .ensures) (c .if1 .taken))
+
+inside : (c : tie.Else1 Inv-loop μ-loop) → c .before .white-back .result ≤ c .before .before .before .loop .end
+inside c =
+    let loop = c .before .before .before .loop in
+    back-inside (c .before .before .before .before .before .args .s .now) (loop .end) (c .before .white-back .result) (loop .inv .0) (c .before .white-back .ensures)
+
+sub-end : tie.Need-sub-end Inv-loop μ-loop
+sub-end c = omega (arith, inside c)
+
+loop-less : tie.Need-loop-less Inv-loop μ-loop
+loop-less c = omega (arith, inside c)
+
+loop-again : tie.Need-loop-again Inv-loop μ-loop
+loop-again c =
+    let step = c .before .white-back in
+    let s = c .before .before .before .before .before .args .s .now in
+    let loop = c .before .before .before .loop in
+    (omega (arith, loop .inv .0), loop .inv .1 ∙ back-on s (loop .end) (step .result) (loop .inv .0) (step .ensures) (c .if1 .left))
+
+pub back-end-spec : {M : Type 1} → statement M
+back-end-spec =
+    tie.close
+    (tie.spec
+    Inv-loop
+    μ-loop
+    loop-holds
+    slice-aggregate-white-back
+    white-back-requires
+    returns
+    sub-end
+    loop-less
+    loop-again)

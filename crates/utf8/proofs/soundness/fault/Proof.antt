@@ -1,0 +1,73 @@
+-- `utf8::soundness::fault` meets its contract. Each test that fails is a law of isSound; the last answer is given only where every test
+-- has passed.
+-- Assumes nothing.
+use mathlib.Core.Path.{_≡_, sym, ap, _∙_}
+use mathlib.Core.Bool.{not}
+use native.Mathlib.Omega.{arith}
+use borrow.Author.Needs.{needs}
+use Rattle.utf8.specs.Sound.{bit}
+use Rattle.utf8.proofs.Sound.{fault-turn, fault-least, fault-greatest, fault-never, fault-none}
+use Rattle.utf8.proofs.soundness.fault.Statement.{statement}
+use Rattle.utf8.proofs.soundness.fault.Tie as tie
+
+trails-requires : tie.Need-trails-requires
+trails-requires c κs = search needs
+
+owed-requires : tie.Need-owed-requires
+owed-requires c κs = search needs
+
+returns : tie.Need-returns
+returns c =
+    let a = c .before .before .before .args in
+    sym (ap (λ t. bit (not t)) (fault-turn (a .p3) (a .p2) (a .p1) (a .b) (λ e. omega (arith, c .before .before .trails .ensures, c .before .owed .ensures))))
+
+least-behind-requires : tie.Need-least-behind-requires
+least-behind-requires c κs = search needs
+
+returns-2 : tie.Need-returns-2
+returns-2 c =
+    let a = c .before .before .before .before .before .args in
+    sym (ap (λ t. bit (not t)) (fault-least (a .p3) (a .p2) (a .p1) (a .b) (omega arith)))
+
+greatest-behind-requires : tie.Need-greatest-behind-requires
+greatest-behind-requires c κs = search needs
+
+returns-3 : tie.Need-returns-3
+returns-3 c =
+    let a = c .before .before .before .before .before .before .before .args in
+    sym (ap (λ t. bit (not t)) (fault-greatest (a .p3) (a .p2) (a .p1) (a .b) (omega arith)))
+
+returns-4 : tie.Need-returns-4
+returns-4 c =
+    let a = c .before .before .before .before .before .before .before .before .args in
+    sym (ap (λ t. bit (not t)) (fault-never (a .p3) (a .p2) (a .p1) (a .b) (omega arith) (omega arith)))
+
+returns-5 : tie.Need-returns-5
+returns-5 c =
+    let a = c .before .before .before .before .before .before .before .before .before .args in
+    sym (ap (λ t. bit (not t)) (fault-never (a .p3) (a .p2) (a .p1) (a .b) (omega arith) (omega arith)))
+
+returns-6 : tie.Need-returns-6
+returns-6 c =
+    let a = c .before .before .before .before .before .before .before .before .before .args in
+    let t = c .before .before .before .before .before .before .before .before .trails in
+    let o = c .before .before .before .before .before .before .before .owed in
+    let e : t .result ≡ o .result = omega arith in
+    sym
+    (ap (λ t. bit (not t))
+    (fault-none (a .p3) (a .p2) (a .p1) (a .b) (sym (t .ensures) ∙ e ∙ o .ensures) (λ x. omega arith) (λ x. omega arith) (omega arith) (omega arith)))
+
+pub fault-spec : {M : Type 1} → statement M
+fault-spec =
+    tie.close
+    (tie.spec
+    trails-requires
+    owed-requires
+    returns
+    least-behind-requires
+    returns-2
+    greatest-behind-requires
+    returns-3
+    returns-4
+    returns-5
+    returns-6)

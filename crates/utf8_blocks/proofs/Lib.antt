@@ -1,4 +1,0 @@
-pub mod Whole
-pub mod Walk
-pub mod Blocks
-pub mod Answers

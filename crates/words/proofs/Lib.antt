@@ -1,3 +1,0 @@
-pub mod Rows
-mod Lines
-mod Parts
