@@ -2,16 +2,13 @@
 // altered to several values each. A call is accepted, or refused by 25 carrying 0 with nothing changed; after an accepted one
 // the lookups give what the call defines, and all else as before.
 
-use format::Answer;
 use format::CpimHeader;
 use format::CpimMessage;
-use format::HeaderAnswer;
 use io::print_decimal;
 use io::write_all;
 use lookup::content_headers::content_value;
 use lookup::counts::count_contents;
 use lookup::counts::count_headers;
-use lookup::get_header;
 use lookup::get_header_value;
 use octets::compare::same;
 

@@ -16,8 +16,7 @@ ghost use Rattle.format.specs.LookingUp.{nthHeader, getHeader, getHeaderValue, 
 ghost use Rattle.places.specs.Rows.{Placed};
 ghost use Rattle.text_parts.specs.Placing.{PlaceIs};
 ghost use Rattle.places.specs.Spots.{PartIs, PairIs};
-ghost use Rattle.places.specs.Standing.{contentPlace, addressPlace};
-ghost use Rattle.places.specs.Standing as alone;
+ghost use Rattle.places.specs.Standing.{contentPlace, aloneParamPlace, addressPlace};
 ghost use Rattle.places.specs.Named.{headerPlace, valuePlace, paramPlace};
 
 // The first value of a name.
@@ -89,7 +88,7 @@ pub extern "C" fn cpim_header_value(h: CpimHeader, store: &[u8]) -> Part
 // The n-th parameter of a header alone.
 #[no_mangle]
 pub extern "C" fn cpim_header_param(h: CpimHeader, store: &[u8], n: usize) -> Pair
-    ensures { λ r. ⌜ ((o : Option LoneHeader) → HeldAlone h (now (store .entry)) o → PairIs (now (store .entry)) (alone.paramPlace o n) (aloneParam o n) r) ⌝ }
+    ensures { λ r. ⌜ ((o : Option LoneHeader) → HeldAlone h (now (store .entry)) o → PairIs (now (store .entry)) (aloneParamPlace o n) (aloneParam o n) r) ⌝ }
 {
     places::standing::header_param(h, store, n)
 }

@@ -1,5 +1,6 @@
 // Entries in a store, one behind another: 16 bytes of numbers, name, value, and the bytes of the parameters
-// (crates/format/specs/Layout.antt). Here one is read; specs/Stored.antt says what stands where.
+// (crates/format/specs/Layout.antt). Here one is read; specs/Stored.antt says what stands where. `groups` passes over entries and finds
+// those of a name.
 
 pub mod groups;
 

@@ -1,5 +1,5 @@
--- The bytes of a value that document 01, "Escaping", writes as they are wherever they stand. The law that says so is `bare-escape` of the
--- crate `escape`. Assumes nothing.
+-- The bytes of a value that document 01, "Escaping", writes as they are wherever they stand. The law that says so is `bare-escape` in
+-- proofs/BareBytes.antt. Assumes nothing.
 use Prim.Native.Nat.{ℕ}
 use mathlib.Core.Bool.{Bool, not, _||_}
 use lib.Dec.{ltb, eqb}

@@ -17,7 +17,7 @@ use Rattle.format.proofs.Lists.{clash}
 use Rattle.format.proofs.Messages.Layout.{taken}
 use Rattle.held.specs.Holding.{messageHolds, headerHolds}
 use Rattle.held.specs.Decoding.{messageIn, headerIn}
-use Rattle.held.proofs.Parts.{held-parts}
+use Rattle.held.proofs.Parts.{HeldParts, held-parts}
 use Rattle.held.proofs.Messages.{holds-held, held-holds}
 use Rattle.held.proofs.Alone.{holds-alone-held, held-alone-holds}
 
@@ -34,13 +34,19 @@ module _ (P : Option Message → Type 0) (l : Lent) where
 
 module _ (m : CpimMessage) (head : Bytes) where
   -- the message read from the head store, where the body's bytes are free
-  pub in-head : messageHolds m head ≡ true → Holds (headLent m head) (messageIn m head (replicate (m .bodylen) 0))
+  abbrev pub headRead : Message
+  headRead = messageIn m head (replicate (m .bodylen) 0)
+
+  pub in-head : messageHolds m head ≡ true → Holds (headLent m head) headRead
   in-head h = held-holds m head (replicate (m .bodylen) 0) none h (length-replicate (m .bodylen) 0) tt
+
+  pub head-parts : messageHolds m head ≡ true → HeldParts (headLent m head) headRead
+  head-parts h = held-parts (headLent m head) headRead (in-head h)
 
   -- its parts are within the head store
   pub used-within : messageHolds m head ≡ true → 256 + (m .headerlen + m .contentlen) ≤ length head
   used-within h =
-      let p = held-parts (headLent m head) (messageIn m head (replicate (m .bodylen) 0)) (in-head h) in
+      let p = head-parts h in
       omega (arith, p .used, p .room)
 
   module _ (P : Option Message → Type 0) where
@@ -51,7 +57,7 @@ module _ (m : CpimMessage) (head : Bytes) where
         none-held P l (λ k w. clash (holds-held l k w) h)
 
     pub head-held : messageHolds m head ≡ true → ((k : Message) → Holds (headLent m head) k → P (some k)) → (o : Option Message) → Held (headLent m head) o → P o
-    head-held h = some-held P (headLent m head) (messageIn m head (replicate (m .bodylen) 0)) (in-head h)
+    head-held h = some-held P (headLent m head) headRead (in-head h)
 
     -- with a body store, whose first bytes are the body
     pub body-held : (store : Bytes) → messageHolds m head ≡ true → m .bodylen ≤ length store

@@ -1,5 +1,5 @@
 // Whether a name or a value may stand in an entry of a kind: the validators and UTF-8 in one answer (specs/Fitting.antt). A short
-// text that is light (crates/weights) passes both at once; any other is put to them.
+// text that is light (weights.rt) passes both at once; any other is put to them.
 
 use crate::kinds::Kind;
 use crate::weights::is_light;

@@ -15,7 +15,7 @@ use Rattle.held.specs.Holding.{messageHolds}
 use Rattle.held.proofs.Parts.{part-of, held-parts}
 use Rattle.held.proofs.Cases.{not-held, head-held}
 use Rattle.nth.specs.Listed.{Listed}
-use Rattle.lookup.specs.Contents.{contentsHeld}
+use Rattle.lookup.specs.OfHeld.{contentsHeld}
 
 module _ (m : CpimMessage) (head : Bytes) where
   pub no-contents : messageHolds m head ≡ false → (o : Option Message) → Held (headLent m head) o → Listed layoutEntry (contentsHeld o) [] 0

@@ -4,7 +4,7 @@ use mathlib.Core.Path.{_≡_, refl, ap, _∙_}
 use mathlib.Core.Bool.{true, false}
 use mathlib.Core.Option.{Option, none}
 use native.Mathlib.Omega.{arith}
-use lib.ListN.{take, drop, replicate}
+use lib.ListN.{take, drop}
 use Rattle.format.specs.Bytes.{Bytes, total}
 use Rattle.format.specs.Message.{Message}
 use Rattle.format.specs.Layout.{Held}
@@ -14,9 +14,8 @@ use Rattle.format.specs.declared.CpimMessage.{CpimMessage}
 use Rattle.format.proofs.Messages.Parts.{message-parts}
 use Rattle.entries.specs.Stored.{shapedAll, entriesIn}
 use Rattle.held.specs.Holding.{messageHolds}
-use Rattle.held.specs.Decoding.{messageIn}
-use Rattle.held.proofs.Parts.{HeldParts, part-of, held-parts}
-use Rattle.held.proofs.Cases.{in-head, not-held, head-held}
+use Rattle.held.proofs.Parts.{part-of, held-parts}
+use Rattle.held.proofs.Cases.{headRead, in-head, head-parts, not-held, head-held}
 use Rattle.nth.proofs.Lists.{headers-params}
 
 -- Where nothing is held.
@@ -35,17 +34,11 @@ module _ (m : CpimMessage) (head : Bytes) (h : messageHolds m head ≡ false) wh
 
 -- Where a message is held.
 module _ (m : CpimMessage) (head : Bytes) (h : messageHolds m head ≡ true) where
-  abbrev read : Message
-  read = messageIn m head (replicate (m .bodylen) 0)
-
-  parts : HeldParts (headLent m head) read
-  parts = held-parts (headLent m head) read (in-head m head h)
-
   pub headers-few : m .headers < 65536
-  headers-few = omega (arith, parts .headers, message-parts read (in-head m head h .within) .headers .few)
+  headers-few = omega (arith, head-parts m head h .headers, message-parts (headRead m head) (in-head m head h .within) .headers .few)
 
   pub headers-in-order : shapedAll (m .headers) (take (256 + m .headerlen - 256) (drop 256 head)) ≡ true
-  headers-in-order = ap (shapedAll (m .headers)) (part-of 256 (m .headerlen) head) ∙ parts .headers-shaped
+  headers-in-order = ap (shapedAll (m .headers)) (part-of 256 (m .headerlen) head) ∙ head-parts m head h .headers-shaped
 
   pub headers-counted : (o : Option Message) → Held (headLent m head) o → m .headers ≡ countHeaders o
   unfolding countHeaders

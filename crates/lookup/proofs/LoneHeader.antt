@@ -18,7 +18,7 @@ use Rattle.held.proofs.Alone.{held-alone-holds}
 use Rattle.held.proofs.Cases.{alone-held, alone-not-held}
 use Rattle.parts.specs.Found.{Found}
 use Rattle.nth.specs.Listed.{Listed}
-use Rattle.lookup.specs.Params.{paramsHeld}
+use Rattle.lookup.specs.OfHeld.{paramsHeld}
 
 -- Where nothing is held.
 module _ (r : CpimHeader) (store : Bytes) (h : headerHolds r store ≡ false) where
@@ -57,7 +57,7 @@ module _ (r : CpimHeader) (store : Bytes) (h : headerHolds r store ≡ true) whe
       record { bytes = p .params-part; entries = p .params })
 
 -- the n-th parameter
-pub nth-param : (o : Option LoneHeader) (n : ℕ) → aloneParam o n ≡ nth n (paramsHeld o)
+pub nth-alone : (o : Option LoneHeader) (n : ℕ) → aloneParam o n ≡ nth n (paramsHeld o)
 unfolding aloneParam nth
-nth-param none n = refl
-nth-param (some h) n = refl
+nth-alone none n = refl
+nth-alone (some h) n = refl

@@ -16,9 +16,8 @@ use Rattle.format.specs.LookingUp.{getType, getBody, bodyAsStr}
 use Rattle.format.specs.declared.CpimMessage.{CpimMessage}
 use Rattle.format.proofs.Lists.{clash}
 use Rattle.held.specs.Holding.{messageHolds}
-use Rattle.held.specs.Decoding.{messageIn}
-use Rattle.held.proofs.Parts.{HeldParts, held-parts}
-use Rattle.held.proofs.Cases.{in-head, not-held, head-held, body-held, body-short}
+use Rattle.held.proofs.Parts.{held-parts}
+use Rattle.held.proofs.Cases.{head-parts, not-held, head-held, body-held, body-short}
 use Rattle.parts.specs.Found.{Found}
 
 -- a part from the start
@@ -51,14 +50,8 @@ module _ (m : CpimMessage) (head : Bytes) (h : messageHolds m head ≡ false) wh
 
 -- Where a message is held.
 module _ (m : CpimMessage) (head : Bytes) (h : messageHolds m head ≡ true) where
-  abbrev read : Message
-  read = messageIn m head (replicate (m .bodylen) 0)
-
-  parts : HeldParts (headLent m head) read
-  parts = held-parts (headLent m head) read (in-head m head h)
-
   pub type-within : m .typelen ≤ length head
-  type-within = omega (arith, parts .typelen, parts .type-short, parts .used, parts .room)
+  type-within = omega (arith, head-parts m head h .typelen, head-parts m head h .type-short, head-parts m head h .used, head-parts m head h .room)
 
   pub type-found : {found : Bool} {r : Bytes} → Found (some (take (m .typelen - 0) (drop 0 head))) found r
       → (o : Option Message) → Held (headLent m head) o → Found (getType o) found r

@@ -13,7 +13,7 @@ ghost use Rattle.format.specs.Layout.{layoutEntry, HeldAlone};
 ghost use Rattle.format.specs.LookingUp.{mapped, aloneValue, aloneParam};
 ghost use Rattle.parts.specs.Found.{Found};
 ghost use Rattle.nth.specs.Listed.{Listed};
-ghost use Rattle.lookup.specs.Params.{paramsHeld};
+ghost use Rattle.lookup.specs.OfHeld.{paramsHeld};
 
 pub fn value<'a>(h: CpimHeader, store: &'a [u8], found: &mut bool) -> &'a [u8]
     ensures { λ r. ⌜ ((o : Option LoneHeader) → HeldAlone h (now (store .entry)) o → Found (aloneValue o) (now (found .exit)) (now r)) ⌝ }

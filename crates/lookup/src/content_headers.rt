@@ -12,7 +12,7 @@ ghost use Rattle.format.specs.Lending.{headLent};
 ghost use Rattle.format.specs.LookingUp.{mapped, getContent};
 ghost use Rattle.parts.specs.Found.{Found};
 ghost use Rattle.nth.specs.Listed.{Listed};
-ghost use Rattle.lookup.specs.Contents.{contentsHeld};
+ghost use Rattle.lookup.specs.OfHeld.{contentsHeld};
 
 // The bytes of the content headers, and how many they are; none where no message is held.
 fn contents<'a>(m: CpimMessage, head: &'a [u8], many: &mut usize) -> &'a [u8]

@@ -1,5 +1,6 @@
-// Document 01, "Looking up": the values and parameters of a name. What is handed out is a part of the lent head store; `found`
-// tells an absent value from an empty one. Any record and any bytes may be lent, and any n asked for.
+// Document 01, "Looking up": here the values and parameters of a name; in modules type and body, content headers, how many there are, and
+// a header alone. What is handed out is a part of the lent store; `found` tells an absent value from an empty one. Any record and any
+// bytes may be lent, and any n asked for.
 
 pub mod accessors;
 pub mod alone;

@@ -28,7 +28,8 @@ pub begins-end : (p t : Bytes) (j : ℕ) → length p ≤ j → begins (drop j p
 unfolding begins
 begins-end p t j h = rw (drop-of-length-le p {i = j} h) refl
 
-begins-short : (p t : Bytes) → length t < length p → begins p t ≡ false
+-- a text shorter than the pattern does not begin with it
+pub begins-short : (p t : Bytes) → length t < length p → begins p t ≡ false
 unfolding begins
 begins-short [] t h = absurd (omega arith)
 begins-short (a ∷ p) [] h = refl

@@ -1,4 +1,4 @@
-// Byte slices: bytes copied and zeroed.
+// Byte slices: bytes copied and zeroed, and in modules a byte looked for, bytes moved, texts compared.
 // Each contract is an equation with a definition of crates/format/specs/Bytes.antt; proofs/Paste.antt has the laws of
 // `pasted`, by which every crate above says what it wrote.
 

@@ -21,14 +21,14 @@ use Rattle.held.proofs.Held.{held-total, held-alone-total}
 use Rattle.nth.specs.Listed.{Listed}
 use Rattle.nth.proofs.Lists.{entries-shaped}
 use Rattle.lookup.proofs.TypeAndBody.{type-at, body-at, type-within}
-use Rattle.lookup.specs.Contents.{contentsHeld}
+use Rattle.lookup.specs.OfHeld.{contentsHeld}
 use Rattle.lookup.proofs.ContentsHeld.{contents-listed}
-use Rattle.lookup.specs.Params.{paramsHeld}
+use Rattle.lookup.specs.OfHeld.{paramsHeld}
 use Rattle.lookup.proofs.LoneHeader.{value-within, size-within, params-listed}
 use Rattle.places.specs.Spots.{noPart, noPair, PartIs, PairIs, entryPlace}
 use Rattle.places.specs.declared.spots.Pair.{Pair}
 use Rattle.places.proofs.Entries.{part-there, part-absent, pair-none}
-use Rattle.places.specs.Standing.{contentPlace, paramPlace}
+use Rattle.places.specs.Standing.{contentPlace, aloneParamPlace}
 
 -- Where no message is held.
 module _ (m : CpimMessage) (head : Bytes) (h : messageHolds m head ≡ false) where
@@ -89,9 +89,9 @@ module _ (r : CpimHeader) (store : Bytes) where
   unfolding aloneValue
   no-value h = alone-not-held (λ o. PartIs store 16 (aloneValue o) noPart) r store h (part-absent store 16)
 
-  pub no-param : headerHolds r store ≡ false → (n : ℕ) (o : Option LoneHeader) → HeldAlone r store o → PairIs store (paramPlace o n) (aloneParam o n) noPair
+  pub no-param : headerHolds r store ≡ false → (n : ℕ) (o : Option LoneHeader) → HeldAlone r store o → PairIs store (aloneParamPlace o n) (aloneParam o n) noPair
   unfolding aloneParam
-  no-param h n = alone-not-held (λ o. PairIs store (paramPlace o n) (aloneParam o n) noPair) r store h (pair-none store (paramPlace none n))
+  no-param h n = alone-not-held (λ o. PairIs store (aloneParamPlace o n) (aloneParam o n) noPair) r store h (pair-none store (aloneParamPlace none n))
 
   module _ (h : headerHolds r store ≡ true) where
     pub params-within : (16 + r .valuelen ≤ r .size) × (r .size ≤ length store)
@@ -109,8 +109,8 @@ module _ (r : CpimHeader) (store : Bytes) where
     pub param-there : (n : ℕ) (p : Pair)
         → ((es : List Entry) → Listed layoutEntry es (take (r .size - (16 + r .valuelen)) (drop (16 + r .valuelen) store)) (r .params)
         → PairIs store (entryPlace (16 + r .valuelen) es n) (nth n es) p)
-        → (o : Option LoneHeader) → HeldAlone r store o → PairIs store (paramPlace o n) (aloneParam o n) p
-    unfolding aloneParam paramPlace
+        → (o : Option LoneHeader) → HeldAlone r store o → PairIs store (aloneParamPlace o n) (aloneParam o n) p
+    unfolding aloneParam aloneParamPlace
     param-there n p f o held =
-        alone-held (λ o. Listed layoutEntry (paramsHeld o) (take (r .size - (16 + r .valuelen)) (drop (16 + r .valuelen) store)) (r .params) → PairIs store (paramPlace o n) (aloneParam o n) p) r store h
+        alone-held (λ o. Listed layoutEntry (paramsHeld o) (take (r .size - (16 + r .valuelen)) (drop (16 + r .valuelen) store)) (r .params) → PairIs store (aloneParamPlace o n) (aloneParam o n) p) r store h
         (λ k w l. rw (sym (alone-parts r store k w .valuelen)) (f (k .params) l)) o held (params-listed r store h o held)

@@ -13,9 +13,9 @@ contentPlace none n = 0
 contentPlace (some m) n = entryPlace (256 + total needHeader (m .headers)) (m .contents) n
 
 -- the name of the n-th parameter of a header alone; parameters stand behind its value
-unfoldable pub paramPlace : Option LoneHeader → ℕ → ℕ
-paramPlace none n = 0
-paramPlace (some h) n = entryPlace (16 + length (h .value)) (h .params) n
+unfoldable pub aloneParamPlace : Option LoneHeader → ℕ → ℕ
+aloneParamPlace none n = 0
+aloneParamPlace (some h) n = entryPlace (16 + length (h .value)) (h .params) n
 
 -- the address in a value: behind the first `<`
 unfoldable pub addressPlace : Bytes → ℕ

@@ -1,5 +1,5 @@
 // Where everything stands that is held: the name and the value of each header, parameter and content header, by four numbers each
-// (specs/Rows.antt). Any record and any bytes may be lent.
+// (specs/Rows.antt); in modules the lookups of crates/lookup by place. Any record and any bytes may be lent.
 
 pub mod by_name;
 pub mod spots;

@@ -15,7 +15,7 @@ ghost use Rattle.format.specs.Layout.{Held, HeldAlone};
 ghost use Rattle.format.specs.Lending.{headLent, bothLent};
 ghost use Rattle.format.specs.LookingUp.{getType, getBody, getContent, aloneValue, aloneParam, address};
 ghost use Rattle.places.specs.Spots.{PartIs, PairIs};
-ghost use Rattle.places.specs.Standing.{contentPlace, paramPlace, addressPlace};
+ghost use Rattle.places.specs.Standing.{contentPlace, aloneParamPlace, addressPlace};
 
 pub fn content_type(m: CpimMessage, head: &[u8]) -> Part
     ensures { λ r. ⌜ ((o : Option Message) → Held (headLent m (now (head .entry))) o → PartIs (now (head .entry)) 0 (getType o) r) ⌝ }
@@ -92,7 +92,7 @@ pub fn header_value(h: CpimHeader, store: &[u8]) -> Part
 }
 
 pub fn header_param(h: CpimHeader, store: &[u8], n: usize) -> Pair
-    ensures { λ r. ⌜ ((o : Option LoneHeader) → HeldAlone h (now (store .entry)) o → PairIs (now (store .entry)) (paramPlace o n) (aloneParam o n) r) ⌝ }
+    ensures { λ r. ⌜ ((o : Option LoneHeader) → HeldAlone h (now (store .entry)) o → PairIs (now (store .entry)) (aloneParamPlace o n) (aloneParam o n) r) ⌝ }
 {
     if !header_holds(h, store) {
         return Pair {

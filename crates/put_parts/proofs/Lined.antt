@@ -1,4 +1,4 @@
--- Lines of entries, written one behind another: every loop of this crate carries it. Assumes nothing.
+-- Lines of entries, written one behind another: every loop of `put_lines` carries it. Assumes nothing.
 use Prim.Native.Nat.{ℕ, _+_, _≤_, _<_}
 use mathlib.Core.Path.{_≡_, sym, ap, _∙_}
 use mathlib.Core.Bool.{true}

@@ -8,6 +8,6 @@ use Rattle.format.specs.Writing.{typeLine, ended}
 abbrev pub opening : Bytes
 opening = CRLF ++ ascii "Content-type: "
 
-pub content-parts : (type lines : Bytes) → CRLF ++ (ended (typeLine type) ++ lines) ≡ opening ++ (type ++ (CRLF ++ (lines ++ [])))
+pub type-parts : (type lines : Bytes) → CRLF ++ (ended (typeLine type) ++ lines) ≡ opening ++ (type ++ (CRLF ++ (lines ++ [])))
 unfolding typeLine
-content-parts type lines = rw (append-nil lines) (ap (λ (x : Bytes). opening ++ x) (append-assoc type CRLF lines))
+type-parts type lines = rw (append-nil lines) (ap (λ (x : Bytes). opening ++ x) (append-assoc type CRLF lines))

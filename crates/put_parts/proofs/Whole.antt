@@ -16,9 +16,8 @@ use Rattle.held.specs.Holding.{typeHolds, numbersHold, typePart, headersPart, c
 use Rattle.judging.specs.Listed.{entriesFrom, headersFrom}
 use Rattle.held.specs.Decoding.{messageIn}
 use Rattle.judging.specs.declared.kinds.Kind.the-variants.{Content}
-use Rattle.held.proofs.Parts.{both}
+use Rattle.held.proofs.Parts.{both, part-of}
 use Rattle.held.proofs.Messages.{Numbered, numbers-parts}
-use Rattle.held.proofs.Parts.{part-of}
 use Rattle.put_parts.proofs.Lengths.{contents-length, write-length}
 
 module _ (m : CpimMessage) (head : Bytes) where

@@ -1,5 +1,5 @@
-// Document 01, "Writing": the parts of a text beside the headers' lines, over the bytes of an output. Each function writes from a place on
-// and gives the place behind what it wrote.
+// Document 01, "Writing": the parts of a text over the bytes of an output. Each function writes from a place on and gives the place behind
+// what it wrote. The headers' and content headers' lines are in `put_lines`; `measure` says how long a text is before it is written.
 
 pub mod measure;
 pub mod put_lines;

@@ -12,13 +12,6 @@ use borrow.Author.Tests.{eq-eqb, ne-eqb}
 use Rattle.format.specs.Bytes.{Bytes, begins}
 use Rattle.format.proofs.Splitting.Split.{begins-drop}
 
--- a text shorter than the pattern does not begin with it
-pub begins-short : (p t : Bytes) → length t < length p → begins p t ≡ false
-unfolding begins
-begins-short [] t h = absurd (omega arith)
-begins-short (a ∷ p) [] h = refl
-begins-short (a ∷ p) (b ∷ t) h = rw (begins-short p t (omega arith)) (and-false (eqb a b))
-
 module _ (p t : Bytes) (k j : ℕ) (hk : k < length p) (hj : j < length t) where
   -- the pattern's byte k against the text's byte j
   next : begins (drop k p) (drop j t) ≡ (eqb (getD p k 0) (getD t j 0) && begins (drop (k + 1) p) (drop (j + 1) t))

@@ -17,7 +17,7 @@ use Rattle.format.proofs.Lists.{bcase, clash, and-left, and-right, and-intro, o
 use Rattle.sections.specs.Block.{near}
 use Rattle.sections.specs.Place.{place}
 use Rattle.sections.proofs.Begins.{begins-byte}
-use Rattle.sections.proofs.Matches.{place-step, place-short, part-none}
+use Rattle.sections.proofs.FirstPlace.{place-step, place-short, part-none}
 
 -- 0 exactly where x is a and y is z
 abbrev pub apart : ℕ → ℕ → ℕ → ℕ → ℕ

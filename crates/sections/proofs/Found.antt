@@ -14,7 +14,7 @@ use Rattle.format.specs.Bytes.{Bytes, begins, occurs, pieces, split}
 use Rattle.format.proofs.Lists.{bcase}
 use Rattle.format.proofs.Splitting.Split.{begins-drop, split-found, split-other, split-skip, split-none}
 use Rattle.sections.specs.Place.{place}
-use Rattle.sections.proofs.Matches.{place-here, place-step, place-le}
+use Rattle.sections.proofs.FirstPlace.{place-here, place-step, place-le}
 
 -- the pattern's first occurrence, with r its place
 pub record Found (p t : Bytes) (r : ℕ) : Type 0 where

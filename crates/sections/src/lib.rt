@@ -1,5 +1,6 @@
 // Document 01, "Reading": a text cut at its first separator, its first three sections, a section's lines. "The rest of the
-// text after it is searched on": the part of the text that starts past a separator is handed to the search.
+// text after it is searched on": the part of the text that starts past a separator is handed to the search (`search`). `bodies` joins an
+// LFLF body, `fields` takes a line apart.
 
 pub mod bodies;
 pub mod fields;

@@ -1,10 +1,10 @@
 mod Cases
+mod Digits
 mod Lines
 mod LinesPassed
 mod Names
-mod Parts
+mod Puts
+mod Read
+mod Rows
 mod TellingCases
-pub mod Digits
-pub mod Puts
-pub mod Read
-pub mod Rows
+mod WordParts

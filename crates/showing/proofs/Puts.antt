@@ -1,16 +1,24 @@
 -- Texts put one behind another. It rests on the laws of `pasted`. Assumes nothing.
 use Prim.Native.Nat.{ℕ, _+_, _≤_}
-use mathlib.Core.Path.{_≡_, ap, _∙_}
-use mathlib.Core.List.{_++_}
+use mathlib.Core.Path.{_≡_, sym, ap, _∙_}
+use mathlib.Core.List.{[], _++_}
 use native.Mathlib.Omega.{arith}
 use lib.ListN.{length, length-append}
 use Rattle.format.specs.Bytes.{Bytes, pasted}
-use Rattle.octets.proofs.Paste.{pasted-pasted}
+use Rattle.octets.proofs.Paste.{pasted-nil, pasted-pasted}
 use Rattle.showing.specs.Put.{Put}
 
--- a text of at most so many bytes, as `put` and its like ensure it
-pub puts : {at r : ℕ} {d out : Bytes} (s : Bytes) (most : ℕ) → length s ≤ most → (r ≡ at + length s) × (out ≡ pasted at s d) → Put at most s d out r
+-- what a function that puts a text ensures
+abbrev pub Puts : ℕ → Bytes → Bytes → Bytes → ℕ → Type 0
+Puts at s d out r = (r ≡ at + length s) × (out ≡ pasted at s d)
+
+-- a text of at most so many bytes
+pub puts : {at r : ℕ} {d out : Bytes} (s : Bytes) (most : ℕ) → length s ≤ most → Puts at s d out r → Put at most s d out r
 puts s most h p = record { place = p .0; bytes = p .1; within = omega (arith, p .0) }
+
+-- nothing
+pub puts-nothing : (at n : ℕ) (d : Bytes) → Put at n [] d d at
+puts-nothing at n d = puts [] n (omega arith) (omega arith, sym (pasted-nil at d))
 
 -- one text, and another behind it
 pub puts-then : {at p q a b : ℕ} {s t d out now : Bytes} → at ≤ length d → Put at a s d out p → Put p b t out now q → Put at (a + b) (s ++ t) d now q

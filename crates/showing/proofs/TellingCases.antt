@@ -15,18 +15,13 @@ use Rattle.format.specs.Layout.{Lent, Held, message, emptyMessage}
 use Rattle.format.specs.Lending.{bothLent, Parsed}
 use Rattle.format.specs.LookingUp.{nth, mapped}
 use Rattle.format.specs.declared.Numbers.{Numbers}
-use Rattle.octets.proofs.Paste.{pasted-nil}
-use Rattle.showing.specs.Put.{Put}
-use Rattle.showing.proofs.Puts.{puts, puts-then, puts-as}
-use Rattle.showing.proofs.Read.{is-refused, is-read, in-both}
 use Rattle.whole.specs.Loss.{loss, lossHeld}
 use Rattle.whole.specs.declared.Loss.{Loss}
+use Rattle.showing.specs.Put.{Put}
+use Rattle.showing.proofs.Puts.{Puts, puts, puts-nothing, puts-then, puts-as}
+use Rattle.showing.proofs.Read.{is-refused, is-read, in-both}
 use Rattle.showing.specs.Words.{reason, refusedWords, entryWords}
 use Rattle.showing.specs.Telling.{ofHeader, ofContent, subject, lossWords, tell, wholecpim}
-
--- what a function that puts a text ensures
-abbrev Puts : ℕ → Bytes → Bytes → Bytes → ℕ → Type 0
-Puts at s d out r = (r ≡ at + length s) × (out ≡ pasted at s d)
 
 -- Clauses 2, 5, 8; 4, 6; and the others.
 pub two-is : (c : ℕ) → c ≡ 2 → true ≡ ofHeader c
@@ -60,7 +55,7 @@ module _ (k : Message) (c n : ℕ) where
 
   pub of-none : ofHeader c ≡ false → ofContent c ≡ false → (at : ℕ) (d : Bytes) → Put at 829 (subject k c n) d d at
   unfolding subject
-  of-none f e at d = rw (f, e) (puts [] 829 (omega arith) (omega arith, sym (pasted-nil at d)))
+  of-none f e at d = rw (f, e) (puts-nothing at 829 d)
 
   -- nothing is lost
   pub told-whole : {r : ℕ} {d out : Bytes} → c ≡ 0 → Put 0 80 (reason 0) d out r → Put 0 935 (lossWords k (record { clause = c; entry = n })) d out r

@@ -1,6 +1,6 @@
 -- What the program `wholecpim` prints for standard input: whether what the gateway would write for the notice comes back whole, and if not,
 -- which entry is lost and why. It is added to document 01: reading is its `read` in stores of 65,536 bytes, as `showcpim` has it, and what is
--- lost is `loss` (crates/whole/specs/Loss.antt). The words are crates/words/specs/Words.antt's. Assumes nothing.
+-- lost is `loss` (crates/whole/specs/Loss.antt). The words are specs/Words.antt's. Assumes nothing.
 use Prim.Native.Nat.{ℕ}
 use mathlib.Core.Bool.{Bool, _||_}
 use mathlib.Core.List.{[], _++_}

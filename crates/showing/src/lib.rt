@@ -1,5 +1,5 @@
-// Document 01, "Looking up": what the program `showcpim` prints for its input (crates/format/specs/Showing.antt), over the bytes of an
-// output.
+// What the programs print, over the bytes of an output: here what `showcpim` prints for its input (document 01, "Looking up";
+// crates/format/specs/Showing.antt), in `telling` what `wholecpim` does, with `words` and `decimals` for both.
 
 mod decimals;
 pub mod telling;

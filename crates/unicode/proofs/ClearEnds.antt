@@ -1,24 +1,23 @@
 -- Ends are clear of white space exactly where trimming takes nothing. White space that is no control character has at most three bytes, so
 -- three prefixes and three suffixes decide whether a text begins or ends with it. Assumes nothing.
-use Prim.Native.Nat.{ℕ, zero, suc, _+_, _-_, _≤_, _<_}
-use mathlib.Core.Path.{_≡_, refl, sym, ap, subst, _∙_}
-use mathlib.Core.Bool.{Bool, true, false, not, false≢true}
+use Prim.Native.Nat.{ℕ, _+_, _-_, _≤_, _<_}
+use mathlib.Core.Path.{_≡_, refl, sym, ap, _∙_}
+use mathlib.Core.Bool.{Bool, true, false, not}
 use mathlib.Core.Logic.{⊎-elim}
-use mathlib.Core.List.{List, [], _∷_, _++_, append-assoc, append-nil}
+use mathlib.Core.List.{List, [], _∷_, _++_}
 use native.Mathlib.Omega.{arith}
 use lib.Dec.{eqb}
-use lib.ListN.{length, take, drop, length-append, length-take, take-append-drop}
-use lib.Seq.{drop-append-seam}
+use lib.ListN.{length, take, drop, take-append-drop}
 use borrow.Author.Tests.{eq-eqb, ne-eqb}
-use Rattle.format.specs.Bytes.{Bytes, texts}
-use Rattle.format.specs.Characters.{chars, flat, wellFormed, isWhite, isControl, isLost, trim, lastOf, clearOf, clearEnds}
+use Rattle.format.specs.Bytes.{Bytes}
+use Rattle.format.specs.Characters.{chars, wellFormed, isWhite, isControl, isLost, trim, lastOf, clearOf, clearEnds}
 use Rattle.format.proofs.Lists.{bcase, clash, and-left}
-use Rattle.format.proofs.Characters.Chars.{flat-chars, chars-nil, chars-whole}
+use Rattle.format.proofs.Characters.Chars.{chars-nil, chars-whole}
 use Rattle.format.proofs.Characters.Trim.{trim-clear, trim-full}
-use Rattle.characters.specs.Lengths.{subpartLen}
-use Rattle.characters.proofs.Ends.{subpart-chars, subpart-inside, subpart-some}
+use Rattle.characters.proofs.Ends.{subpart-chars}
 use Rattle.unicode.proofs.WhiteSpace.{white-short, white-whole}
 use Rattle.unicode.proofs.LastChar.{chars-last}
+use Rattle.unicode.proofs.ShortEnds.{first-fails, last-fails}
 use Rattle.unicode.specs.Ends.{frontClear, backClear}
 
 -- the ends are clear exactly where trimming takes nothing
@@ -60,15 +59,15 @@ front-yes [] h = refl
 front-yes (g ∷ gs) h = rw h refl
 
 -- an empty text has none
-pub no-front : (u : Bytes) → length u ≡ 0 → true ≡ frontClear isLost (chars u)
+pub empty-front : (u : Bytes) → length u ≡ 0 → true ≡ frontClear isLost (chars u)
 unfolding frontClear
-no-front [] h = rw chars-nil refl
-no-front (b ∷ t) h = absurd (omega arith)
+empty-front [] h = rw chars-nil refl
+empty-front (b ∷ t) h = absurd (omega arith)
 
-pub no-back : (u : Bytes) → length u ≡ 0 → true ≡ backClear isLost (chars u)
+pub empty-back : (u : Bytes) → length u ≡ 0 → true ≡ backClear isLost (chars u)
 unfolding backClear
-no-back [] h = rw chars-nil refl
-no-back (b ∷ t) h = absurd (omega arith)
+empty-back [] h = rw chars-nil refl
+empty-back (b ∷ t) h = absurd (omega arith)
 
 module _ (u : Bytes) where
   -- one that is lost in front
@@ -85,35 +84,11 @@ module _ (u : Bytes) where
       → (3 ≤ length u → isLost (take 3 u) ≡ false)
       → true ≡ frontClear isLost (chars u)
   unfolding frontClear
-  front-kept h a b c = rw (subpart-chars u h, dark (subpartLen u) (subpart-some u h) (subpart-inside u)) refl
-    where
-      dark : (n : ℕ) → 0 < n → n ≤ length u → isLost (take n u) ≡ false
-      dark zero l m = absurd (omega arith)
-      dark (suc zero) l m = a
-      dark (suc (suc zero)) l m = b m
-      dark (suc (suc (suc zero))) l m = c m
-      dark (suc (suc (suc (suc n)))) l m =
-          let g = take (suc (suc (suc (suc n)))) u in
-          ⊎-elim
-          (λ w. absurd (omega (arith, lost-short g w, length-take (suc (suc (suc (suc n)))) u)))
-          (λ w. w)
-          (bcase (isLost g))
+  front-kept h a b c = rw (subpart-chars u h, first-fails isLost lost-whole lost-short u h a b c) refl
 
   pub front-last : 0 < length u → isLost (take 1 u) ≡ false → isLost (take 2 u) ≡ false → (r : Bool) → r ≡ isLost (take 3 u) → not r ≡ frontClear isLost (chars u)
   front-last h a b true e = front-lost 3 (sym e)
   front-last h a b false e = front-kept h a (λ l. b) (λ l. sym e)
-
--- A text ends with the last of its characters.
-record Ending (u g : Bytes) : Type 0 where
-  before : Bytes
-  joined : u ≡ before ++ g
-
-ending : (g : Bytes) (gs : List Bytes) → Ending (flat (g ∷ gs)) (lastOf g gs)
-unfolding texts lastOf
-ending g [] = record { before = []; joined = append-nil g }
-ending g (h ∷ hs) =
-    let r = ending h hs in
-    record { before = g ++ r .before; joined = ap (λ (x : Bytes). g ++ x) (r .joined) ∙ sym (append-assoc g (r .before) (lastOf h hs)) }
 
 last-is : (gs : List Bytes) (g : Bytes) → isLost g ≡ true → false ≡ backClear isLost (gs ++ (g ∷ []))
 unfolding backClear lastOf
@@ -137,34 +112,9 @@ module _ (u : Bytes) where
   unfolding backClear
   back-kept a b c = go (chars u) refl
     where
-      dark : (n : ℕ) → 0 < n → n ≤ 3 → n ≤ length u → isLost (drop (length u - n) u) ≡ false
-      dark zero l m k = absurd (omega arith)
-      dark (suc zero) l m k = a
-      dark (suc (suc zero)) l m k = b k
-      dark (suc (suc (suc zero))) l m k = c k
-      dark (suc (suc (suc (suc n)))) l m k = absurd (omega arith)
-
-      some-byte : (g : Bytes) → isLost g ≡ true → 0 < length g
-      some-byte [] w = absurd (false≢true (unfold wellFormed in lost-whole [] w))
-      some-byte (x ∷ g) w = omega arith
-
-      ends-dark : (g : Bytes) → Ending u g → isLost g ≡ false
-      ends-dark g r =
-          let front = r .before in
-          let len : length u ≡ length front + length g = ap length (r .joined) ∙ length-append front g in
-          ⊎-elim
-          (λ w.
-          let n : length u - length g ≡ length front = omega arith in
-          let d : drop (length u - length g) u ≡ g = rw n (ap (drop (length front)) (r .joined) ∙ drop-append-seam front g) in
-          clash w (sym (ap isLost d) ∙ dark (length g) (some-byte g w) (lost-short g w) (omega arith)))
-          (λ w. w)
-          (bcase (isLost g))
-
       go : (gs : List Bytes) → chars u ≡ gs → true ≡ backClear isLost (chars u)
       go [] e = rw e refl
-      go (g ∷ gs) e =
-          rw (e, ends-dark (lastOf g gs) (subst (λ (x : Bytes). Ending x (lastOf g gs)) (ap flat (sym e) ∙ flat-chars u) (ending g gs)))
-          refl
+      go (g ∷ gs) e = rw (e, last-fails isLost lost-whole lost-short u a b c g gs e) refl
 
   pub back-last : isLost (drop (length u - 1) u) ≡ false → isLost (drop (length u - 2) u) ≡ false → (r : Bool) → r ≡ isLost (drop (length u - 3) u)
       → not r ≡ backClear isLost (chars u)

@@ -1,4 +1,5 @@
 pub mod ClearEnds
 pub mod LastChar
+pub mod ShortEnds
 pub mod Stripping
 pub mod WhiteSpace

@@ -1,23 +1,23 @@
 -- Trimming from either end, one character at a time: a white-space character in front is the first character, and one at the back
 -- the last. White space has at most three bytes, so three prefixes and three suffixes decide. Assumes nothing.
-use Prim.Native.Nat.{ℕ, zero, suc, _+_, _-_, _≤_, _<_}
+use Prim.Native.Nat.{ℕ, suc, _+_, _-_, _≤_, _<_}
 use mathlib.Core.Path.{_≡_, refl, sym, ap, subst, _∙_}
-use mathlib.Core.Bool.{Bool, true, false, false≢true}
-use mathlib.Core.Logic.{⊎-elim}
-use mathlib.Core.List.{List, [], _∷_, _++_, append-assoc, append-nil}
+use mathlib.Core.Bool.{Bool, true, false}
+use mathlib.Core.List.{List, [], _∷_, _++_}
 use native.Mathlib.Omega.{arith}
-use lib.ListN.{length, take, drop, getD, length-append, length-take, length-drop, take-append-drop}
-use lib.Seq.{drop-append-seam, drop-cons, drop-length, drop-drop, take-take, length-take-le}
-use Rattle.format.specs.Bytes.{Bytes, texts}
-use Rattle.format.specs.Characters.{chars, flat, wellFormed, isWhite, dropFront, dropBack, trimBy, trim, lastOf}
-use Rattle.format.proofs.Lists.{bcase, clash, rest-is}
+use lib.ListN.{length, take, drop, getD, length-drop, take-append-drop}
+use lib.Seq.{drop-cons, drop-length, drop-drop, take-take, length-take-le}
+use Rattle.format.specs.Bytes.{Bytes}
+use Rattle.format.specs.Characters.{chars, flat, isWhite, dropFront, dropBack, trimBy, trim}
+use Rattle.format.proofs.Lists.{rest-is}
 use Rattle.format.proofs.Characters.Chars.{flat-chars, chars-nil, chars-whole, chars-ascii, ascii-whole}
 use Rattle.format.proofs.Characters.Trim.{back-clear}
 use Rattle.characters.specs.Lengths.{subpartLen}
-use Rattle.characters.proofs.Ends.{subpart-chars, subpart-inside, subpart-some}
+use Rattle.characters.proofs.Ends.{subpart-chars}
 use Rattle.unicode.proofs.WhiteSpace.{white-short, white-whole}
 use Rattle.unicode.specs.Trimming.{WhiteFront, WhiteBack}
 use Rattle.unicode.proofs.LastChar.{chars-last}
+use Rattle.unicode.proofs.ShortEnds.{first-fails, last-fails}
 
 pub last-byte : (u : Bytes) → 0 < length u → drop (length u - 1) u ≡ getD u (length u - 1) 0 ∷ []
 last-byte u h =
@@ -69,19 +69,7 @@ pub front-none :
     → dropFront isWhite (chars u) ≡ chars u
 front-none u h a b c =
     rw (subpart-chars u h)
-    (front-keeps isWhite (take (subpartLen u) u) (chars (drop (subpartLen u) u)) (dark (subpartLen u) (subpart-some u h) (subpart-inside u)))
-  where
-    dark : (n : ℕ) → 0 < n → n ≤ length u → isWhite (take n u) ≡ false
-    dark zero l m = absurd (omega arith)
-    dark (suc zero) l m = a
-    dark (suc (suc zero)) l m = b m
-    dark (suc (suc (suc zero))) l m = c m
-    dark (suc (suc (suc (suc n)))) l m =
-        let g = take (suc (suc (suc (suc n)))) u in
-        ⊎-elim
-        (λ w. absurd (omega (arith, white-short g w, length-take (suc (suc (suc (suc n)))) u)))
-        (λ w. w)
-        (bcase (isWhite g))
+    (front-keeps isWhite (take (subpartLen u) u) (chars (drop (subpartLen u) u)) (first-fails isWhite white-whole white-short u h a b c))
 
 pub front-low : (u : Bytes) → 0 < length u → getD u 0 0 < 0x80 → isWhite (getD u 0 0 ∷ []) ≡ false → dropFront isWhite (chars u) ≡ chars u
 front-low [] h l w = absurd (omega arith)
@@ -98,18 +86,6 @@ back-step u m h =
     ∙ ap (dropBack isWhite) (chars-last (take m u) (drop m u) (white-whole (drop m u) h))
     ∙ back-drops isWhite (chars (take m u)) (drop m u) h
 
--- A text ends with the last of its characters.
-record Ending (u g : Bytes) : Type 0 where
-  before : Bytes
-  joined : u ≡ before ++ g
-
-ending : (g : Bytes) (gs : List Bytes) → Ending (flat (g ∷ gs)) (lastOf g gs)
-unfolding texts lastOf
-ending g [] = record { before = []; joined = append-nil g }
-ending g (h ∷ hs) =
-    let r = ending h hs in
-    record { before = g ++ r .before; joined = ap (λ (x : Bytes). g ++ x) (r .joined) ∙ sym (append-assoc g (r .before) (lastOf h hs)) }
-
 -- Nothing is dropped where no character of one, two or three bytes at the back is white space.
 pub back-none :
     (u : Bytes)
@@ -119,34 +95,9 @@ pub back-none :
     → dropBack isWhite (chars u) ≡ chars u
 back-none u a b c = go (chars u) refl
   where
-    dark : (n : ℕ) → 0 < n → n ≤ 3 → n ≤ length u → isWhite (drop (length u - n) u) ≡ false
-    dark zero l m k = absurd (omega arith)
-    dark (suc zero) l m k = a
-    dark (suc (suc zero)) l m k = b k
-    dark (suc (suc (suc zero))) l m k = c k
-    dark (suc (suc (suc (suc n)))) l m k = absurd (omega arith)
-
-    some-byte : (g : Bytes) → isWhite g ≡ true → 0 < length g
-    some-byte [] w = absurd (false≢true (unfold isWhite wellFormed in w))
-    some-byte (x ∷ g) w = omega arith
-
-    ends-dark : (g : Bytes) → Ending u g → isWhite g ≡ false
-    ends-dark g r =
-        let front = r .before in
-        let len : length u ≡ length front + length g = ap length (r .joined) ∙ length-append front g in
-        ⊎-elim
-        (λ w.
-        let n : length u - length g ≡ length front = omega arith in
-        let d : drop (length u - length g) u ≡ g = rw n (ap (drop (length front)) (r .joined) ∙ drop-append-seam front g) in
-        clash w (sym (ap isWhite d) ∙ dark (length g) (some-byte g w) (white-short g w) (omega arith)))
-        (λ w. w)
-        (bcase (isWhite g))
-
     go : (gs : List Bytes) → chars u ≡ gs → dropBack isWhite (chars u) ≡ chars u
     go [] e = rw e (back-nothing isWhite)
-    go (g ∷ gs) e =
-        rw e
-        (back-clear isWhite g gs (ends-dark (lastOf g gs) (subst (λ (x : Bytes). Ending x (lastOf g gs)) (ap flat (sym e) ∙ flat-chars u) (ending g gs))))
+    go (g ∷ gs) e = rw e (back-clear isWhite g gs (last-fails isWhite white-whole white-short u a b c g gs e))
 
 pub back-low : (u : Bytes) → 0 < length u → getD u (length u - 1) 0 < 0x80 → isWhite (getD u (length u - 1) 0 ∷ []) ≡ false → dropBack isWhite (chars u) ≡ chars u
 back-low u h l w =

@@ -1,4 +1,5 @@
-// Code points, white space and control characters (document 01, "Characters"), of any bytes.
+// Code points, white space and control characters (document 01, "Characters"), of any bytes; in modules, white space at the ends of a
+// text: stripped, and looked for.
 
 pub mod ends;
 pub mod trimming;

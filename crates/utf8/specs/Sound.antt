@@ -1,4 +1,4 @@
--- What the test of a block asks of each byte, by the three bytes before it. It is not UTF-8 itself: the proofs of utf8_blocks derive
+-- What the test of a block asks of each byte, by the three bytes before it. It is not UTF-8 itself: proofs/Walk.antt derives
 -- Table 3-7 from it. Assumes nothing.
 use Prim.Native.Nat.{ℕ, zero, suc, _+_, _≤_, _<_}
 use mathlib.Core.Path.{_≡_}

@@ -1,4 +1,5 @@
-// UTF-8 over whole texts: by blocks as far as they go, and characters one by one elsewhere.
+// UTF-8 over whole texts: by blocks as far as they go (`blocks`, `soundness`), and characters one by one elsewhere; `replace` puts U+FFFD
+// for what is ill-formed.
 
 mod blocks;
 pub mod replace;

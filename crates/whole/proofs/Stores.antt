@@ -10,14 +10,13 @@ use lib.Seq.{take-at, take-take}
 use Rattle.format.specs.Bytes.{Bytes}
 use Rattle.format.specs.Message.{Entry, Header, Message}
 use Rattle.format.specs.Layout.{layoutEntry, layoutHeader, Holds, Held}
-use Rattle.format.specs.Lending.{headLent, bothLent}
+use Rattle.format.specs.Lending.{bothLent}
 use Rattle.format.specs.declared.CpimMessage.{CpimMessage}
 use Rattle.entries.specs.Stored.{shapedAll}
 use Rattle.nth.specs.Listed.{Listed}
 use Rattle.held.specs.Holding.{messageHolds}
-use Rattle.held.specs.Decoding.{messageIn}
 use Rattle.held.proofs.Parts.{HeldParts, part-of, held-parts}
-use Rattle.held.proofs.Cases.{in-head, not-held, body-held, body-short}
+use Rattle.held.proofs.Cases.{head-parts, not-held, body-held, body-short}
 use Rattle.whole.specs.declared.Loss.{Loss}
 use Rattle.whole.specs.Loss.{lost, none-lost, early, late, loss, lossHeld}
 use Rattle.whole.proofs.Lossless.{early-passes, early-stops}
@@ -46,20 +45,14 @@ module _ (m : CpimMessage) (head : Bytes) (h : messageHolds m head ≡ true) whe
   abbrev contents-at : Bytes
   contents-at = take (256 + m .headerlen + m .contentlen - (256 + m .headerlen)) (drop (256 + m .headerlen) head)
 
-  abbrev read : Message
-  read = messageIn m head (replicate (m .bodylen) 0)
-
-  parts : HeldParts (headLent m head) read
-  parts = held-parts (headLent m head) read (in-head m head h)
-
   pub type-within : m .typelen ≤ length head
-  type-within = omega (arith, parts .typelen, parts .type-short, parts .used, parts .room)
+  type-within = omega (arith, head-parts m head h .typelen, head-parts m head h .type-short, head-parts m head h .used, head-parts m head h .room)
 
   pub headers-in-order : shapedAll (m .headers) headers-at ≡ true
-  headers-in-order = ap (shapedAll (m .headers)) (part-of 256 (m .headerlen) head) ∙ parts .headers-shaped
+  headers-in-order = ap (shapedAll (m .headers)) (part-of 256 (m .headerlen) head) ∙ head-parts m head h .headers-shaped
 
   pub contents-in-order : shapedAll (m .contents) contents-at ≡ true
-  contents-in-order = ap (shapedAll (m .contents)) (part-of (256 + m .headerlen) (m .contentlen) head) ∙ parts .contents-shaped
+  contents-in-order = ap (shapedAll (m .contents)) (part-of (256 + m .headerlen) (m .contentlen) head) ∙ head-parts m head h .contents-shaped
 
   module _ (body : Bytes) (fits : m .bodylen ≤ length body) (first : Loss)
       (asked : (xs : List Header) (ys : List Entry) → Listed layoutHeader xs headers-at (m .headers) → Listed layoutEntry ys contents-at (m .contents)

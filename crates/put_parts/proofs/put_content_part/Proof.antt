@@ -7,7 +7,7 @@ use Rattle.format.specs.Writing.{typeLine, contentLine, ended}
 use Rattle.octets.proofs.Written.{Written, written-none, written-length, written-all}
 use Rattle.judging.specs.Listed.{entriesFrom}
 use Rattle.put_parts.proofs.LineParts.{part-room, part-put}
-use Rattle.put_parts.proofs.Parts.{opening, content-parts}
+use Rattle.put_parts.proofs.Parts.{opening, type-parts}
 use Rattle.put_parts.proofs.put_content_part.Statement.{statement}
 use Rattle.put_parts.proofs.put_content_part.Tie as tie
 
@@ -24,7 +24,7 @@ abbrev lines : tie.After-shared-slice-known2 → Bytes
 lines c = texts (λ e. ended (contentLine e)) (entriesFrom (start c .args .count) (start c .args .s .now))
 
 parts : (c : tie.After-shared-slice-known2) → whole c ≡ opening ++ (kind c ++ (CRLF ++ (lines c ++ [])))
-parts c = content-parts (kind c) (lines c)
+parts c = type-parts (kind c) (lines c)
 
 none : (c : tie.After-shared-slice-known2) → Written (whole c) (start c .args .out .now) (start c .args .out .now) (start c .args .at) (start c .args .at) (whole c)
 none c = written-none (whole c) (start c .args .out .now) (start c .args .at)

@@ -1,4 +1,4 @@
--- `crlf_lines` meets its contract: the place that `find` gives tells whether the pattern occurs.
+-- `sections::crlf_lines` meets its contract: the place that `find` gives tells whether the pattern occurs. Assumes nothing.
 use mathlib.Core.Path.{sym, ap, _∙_}
 use Prim.Native.Nat.{ℕ}
 use native.Mathlib.Omega.{arith}

@@ -1,4 +1,4 @@
--- `cut` meets its contract: a place before the end is that of an occurrence, which lies within the text.
+-- `sections::cut` meets its contract: a place before the end is that of an occurrence, which lies within the text. Assumes nothing.
 use mathlib.Core.Path.{sym, _∙_}
 use native.Mathlib.Omega.{arith}
 use borrow.Author.Needs.{needs}

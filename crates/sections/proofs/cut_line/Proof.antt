@@ -1,4 +1,4 @@
--- `cut_line` meets its contract: it is `cut`, with one of two line ends.
+-- `sections::cut_line` meets its contract: it is `cut`, with one of two line ends. Assumes nothing.
 use borrow.Author.Needs.{needs}
 use Rattle.sections.proofs.cut_line.Statement.{statement}
 use Rattle.sections.proofs.cut_line.Tie as tie

@@ -1,4 +1,4 @@
--- `cut_section` meets its contract: it is `cut`, with one of two separators.
+-- `sections::cut_section` meets its contract: it is `cut`, with one of two separators. Assumes nothing.
 use borrow.Author.Needs.{needs}
 use Rattle.sections.proofs.cut_section.Statement.{statement}
 use Rattle.sections.proofs.cut_section.Tie as tie

@@ -1,6 +1,6 @@
--- `first_three` meets its contract. Each cut that found a separator gives the text's next section and the text behind it (`one`, `two`,
+-- `sections::first_three` meets its contract. Each cut that found a separator gives the text's next section and the text behind it (`one`, `two`,
 -- `three`); the four answers are then `few-one`, `few-two`, `few-three` and `four`, and reading makes of them what it makes of
--- the pieces (`placed-parts`).
+-- the pieces (`placed-parts`). Assumes nothing.
 use mathlib.Core.Path.{_≡_}
 use mathlib.Core.List.{List}
 use Prim.Native.Nat.{ℕ, _+_, _≤_}

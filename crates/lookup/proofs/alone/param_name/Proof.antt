@@ -2,8 +2,8 @@
 use borrow.Author.Needs.{needs}
 use Rattle.held.proofs.Held.{held-alone-total}
 use Rattle.nth.proofs.Lists.{entries-shaped, entry-name}
-use Rattle.lookup.specs.Params.{paramsHeld}
-use Rattle.lookup.proofs.LoneHeader.{nth-param}
+use Rattle.lookup.specs.OfHeld.{paramsHeld}
+use Rattle.lookup.proofs.LoneHeader.{nth-alone}
 use Rattle.lookup.proofs.alone.param_name.Statement.{statement}
 use Rattle.lookup.proofs.alone.param_name.Tie as tie
 
@@ -19,7 +19,7 @@ nth-name-requires c κs =
 returns : tie.Need-returns
 returns c =
     let args = c .before .before .before .before .before .args in
-    λ o held. rw (nth-param o (args .n)) (entry-name (paramsHeld o) _ _ (c .before .before .params .ensures o held) (args .n) _ _ (c .nth-name .ensures))
+    λ o held. rw (nth-alone o (args .n)) (entry-name (paramsHeld o) _ _ (c .before .before .params .ensures o held) (args .n) _ _ (c .nth-name .ensures))
 
 pub param-name-spec : {M : Type 1} → statement M
 param-name-spec =

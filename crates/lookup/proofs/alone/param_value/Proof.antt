@@ -2,8 +2,8 @@
 use borrow.Author.Needs.{needs}
 use Rattle.held.proofs.Held.{held-alone-total}
 use Rattle.nth.proofs.Lists.{entries-shaped, entry-value}
-use Rattle.lookup.specs.Params.{paramsHeld}
-use Rattle.lookup.proofs.LoneHeader.{nth-param}
+use Rattle.lookup.specs.OfHeld.{paramsHeld}
+use Rattle.lookup.proofs.LoneHeader.{nth-alone}
 use Rattle.lookup.proofs.alone.param_value.Statement.{statement}
 use Rattle.lookup.proofs.alone.param_value.Tie as tie
 
@@ -19,7 +19,7 @@ nth-value-requires c κs =
 returns : tie.Need-returns
 returns c =
     let args = c .before .before .before .before .before .args in
-    λ o held. rw (nth-param o (args .n)) (entry-value (paramsHeld o) _ _ (c .before .before .params .ensures o held) (args .n) _ _ (c .nth-value .ensures))
+    λ o held. rw (nth-alone o (args .n)) (entry-value (paramsHeld o) _ _ (c .before .before .params .ensures o held) (args .n) _ _ (c .nth-value .ensures))
 
 pub param-value-spec : {M : Type 1} → statement M
 param-value-spec =

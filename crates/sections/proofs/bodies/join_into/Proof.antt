@@ -1,5 +1,5 @@
--- `join_into` meets its contract. The invariant: the first n bytes of the joined sections are written, and the others are those of
--- what is left, joined.
+-- `sections::bodies::join_into` meets its contract. The invariant: the first n bytes of the joined sections are written, and the others are those of
+-- what is left, joined. Assumes nothing.
 use mathlib.Core.Path.{_≡_, refl, sym, ap, _∙_}
 use mathlib.Core.List.{List, _++_}
 use Prim.Native.Nat.{ℕ, _+_, _-_, _≤_}

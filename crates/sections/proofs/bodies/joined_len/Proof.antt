@@ -1,5 +1,5 @@
--- `joined_len` meets its contract. The invariant: the whole length is that of what is left and the bytes counted so far, which are
--- at most two for each byte passed.
+-- `sections::bodies::joined_len` meets its contract. The invariant: the whole length is that of what is left and the bytes counted so far, which are
+-- at most two for each byte passed. Assumes nothing.
 use mathlib.Core.Path.{_≡_, sym, ap, _∙_}
 use mathlib.Core.List.{List}
 use Prim.Native.Nat.{ℕ, _+_, _-_, _*_, _≤_}

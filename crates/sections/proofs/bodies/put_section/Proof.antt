@@ -1,4 +1,4 @@
--- `put_section` meets its contract: the first section is pasted, and CRLFCRLF behind it (`pasted-pasted`).
+-- `sections::bodies::put_section` meets its contract: the first section is pasted, and CRLFCRLF behind it (`pasted-pasted`). Assumes nothing.
 use mathlib.Core.Path.{_≡_, refl, sym, ap, _∙_}
 use Prim.Native.Nat.{_+_, _≤_}
 use native.Mathlib.Omega.{arith}

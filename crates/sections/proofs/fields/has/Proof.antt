@@ -1,4 +1,4 @@
--- `has` meets its contract: a place before the end is that of the byte.
+-- `sections::fields::has` meets its contract: a place before the end is that of the byte. Assumes nothing.
 use mathlib.Core.Path.{sym}
 use borrow.Author.Needs.{needs}
 use Rattle.octets.proofs.Find.{found-has}

@@ -1,4 +1,4 @@
--- `past` meets its contract: the bytes behind the place that `find_byte` gives, none where it is the end.
+-- `sections::fields::past` meets its contract: the bytes behind the place that `find_byte` gives, none where it is the end. Assumes nothing.
 use mathlib.Core.Path.{_≡_, sym, _∙_}
 use Prim.Native.Nat.{_+_, _-_, _<_}
 use native.Mathlib.Omega.{arith}

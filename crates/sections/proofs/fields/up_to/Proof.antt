@@ -1,4 +1,4 @@
--- `up_to` meets its contract: the bytes before the place that `find_byte` gives.
+-- `sections::fields::up_to` meets its contract: the bytes before the place that `find_byte` gives. Assumes nothing.
 use mathlib.Core.Path.{sym}
 use borrow.Author.Needs.{needs}
 use lib.ListN.{take}

@@ -1,7 +1,7 @@
--- `find_plain` meets its contract. At each place of the text the inner loop compares byte by byte: what is left of the pattern
+-- `sections::search::find_plain` meets its contract. At each place of the text the inner loop compares byte by byte: what is left of the pattern
 -- against what is left of the text decides (`begins-same`, `begins-differs`), and a place that fails is one step of `place`
 -- (`place-next`). The invariants: the text's place is this place and that of what is left; the pattern begins here exactly where
--- its rest begins `k` bytes on.
+-- its rest begins `k` bytes on. Assumes nothing.
 use mathlib.Core.Path.{_≡_, refl, _∙_}
 use mathlib.Core.Bool.{true, false}
 use Prim.Native.Nat.{_+_, _-_, _≤_}
@@ -12,7 +12,7 @@ use borrow.Author.Needs.{needs}
 use Rattle.format.specs.Bytes.{begins}
 use Rattle.sections.specs.Place.{place}
 use Rattle.sections.proofs.Begins.{begins-same, begins-differs, begins-done}
-use Rattle.sections.proofs.Matches.{place-here, place-next, place-short}
+use Rattle.sections.proofs.FirstPlace.{place-here, place-next, place-short}
 use Rattle.sections.proofs.search.find_plain.Statement.{statement}
 use Rattle.sections.proofs.search.find_plain.Tie as tie
 

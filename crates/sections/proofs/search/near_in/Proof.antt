@@ -1,4 +1,5 @@
--- `near_in` meets its contract. The least difference so far is 0 exactly where a pair was passed (`near-next`, `low-less`, `low-kept`).
+-- `sections::search::near_in` meets its contract. The least difference so far is 0 exactly where a pair was passed (`near-next`, `low-less`, `low-kept`).
+-- Assumes nothing.
 use mathlib.Core.Path.{_≡_, refl, sym, ap, _∙_}
 use mathlib.Core.Bool.{Bool, _||_, or-false}
 use mathlib.Core.Logic.{⊎-elim}

@@ -1,7 +1,7 @@
 -- `showing::words::put_carried` meets its contract. Assumes nothing.
 use native.Mathlib.Omega.{arith}
 use borrow.Author.Needs.{needs}
-use Rattle.showing.proofs.Parts.{none-carried, carried-put}
+use Rattle.showing.proofs.WordParts.{none-carried, carried-put}
 use Rattle.showing.proofs.words.put_carried.Statement.{statement}
 use Rattle.showing.proofs.words.put_carried.Tie as tie
 

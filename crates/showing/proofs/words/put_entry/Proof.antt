@@ -3,7 +3,7 @@ use native.Mathlib.Omega.{arith}
 use borrow.Author.Needs.{needs}
 use borrow.Author.Tests.{not-true, not-false}
 use Rattle.format.proofs.Escaping.Escape.{escape-length}
-use Rattle.showing.proofs.Parts.{no-entry, entry-put}
+use Rattle.showing.proofs.WordParts.{no-entry, entry-put}
 use Rattle.showing.proofs.words.put_entry.Statement.{statement}
 use Rattle.showing.proofs.words.put_entry.Tie as tie
 

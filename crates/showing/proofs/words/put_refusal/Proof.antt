@@ -1,6 +1,6 @@
 -- `showing::words::put_refusal` meets its contract. Assumes nothing.
 use borrow.Author.Needs.{needs}
-use Rattle.showing.proofs.Parts.{refusal-put}
+use Rattle.showing.proofs.WordParts.{refusal-put}
 use Rattle.showing.proofs.words.put_refusal.Statement.{statement}
 use Rattle.showing.proofs.words.put_refusal.Tie as tie
 

@@ -6,12 +6,12 @@ use lib.ListN.{length}
 use borrow.Author.Needs.{needs}
 use Rattle.format.specs.Characters.{isLost}
 use Rattle.format.proofs.Lists.{rest-is}
-use Rattle.unicode.proofs.ClearEnds.{no-back, back-lost, back-kept, back-last}
+use Rattle.unicode.proofs.ClearEnds.{empty-back, back-lost, back-kept, back-last}
 use Rattle.unicode.proofs.ends.back_clear.Statement.{statement}
 use Rattle.unicode.proofs.ends.back_clear.Tie as tie
 
 returns : tie.Need-returns
-returns c = no-back (c .before .before .args .s .now) (c .if1 .taken)
+returns c = empty-back (c .before .before .args .s .now) (c .if1 .taken)
 
 sub-one : tie.Need-sub-one
 sub-one c = search needs

@@ -3,12 +3,12 @@ use mathlib.Core.Path.{sym, _∙_}
 use native.Mathlib.Omega.{arith}
 use lib.Seq.{length-take-le}
 use borrow.Author.Needs.{needs}
-use Rattle.unicode.proofs.ClearEnds.{no-front, front-lost, front-kept, front-last}
+use Rattle.unicode.proofs.ClearEnds.{empty-front, front-lost, front-kept, front-last}
 use Rattle.unicode.proofs.ends.front_clear.Statement.{statement}
 use Rattle.unicode.proofs.ends.front_clear.Tie as tie
 
 returns : tie.Need-returns
-returns c = no-front (c .before .before .args .s .now) (c .if1 .taken)
+returns c = empty-front (c .before .before .args .s .now) (c .if1 .taken)
 
 slice-aggregate-is-lost : tie.Need-slice-aggregate-is-lost
 slice-aggregate-is-lost c = sym (length-take-le 1 (c .before .before .before .args .s .now) (omega arith))

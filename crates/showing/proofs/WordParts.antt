@@ -11,23 +11,14 @@ use Rattle.format.specs.Bytes.{Bytes, ascii, pasted}
 use Rattle.format.specs.Escaping.{escape}
 use Rattle.format.specs.Showing.{decimal}
 use Rattle.format.proofs.Lists.{clash}
-use Rattle.octets.proofs.Paste.{pasted-nil}
 use Rattle.parts.specs.Found.{Found}
 use Rattle.showing.specs.Put.{Put}
-use Rattle.showing.proofs.Puts.{puts, puts-then, puts-as}
+use Rattle.showing.proofs.Puts.{Puts, puts, puts-nothing, puts-then, puts-as}
 use Rattle.showing.specs.Words.{condition, carriedWords, refusedWords, entryWords}
-
--- what a function that puts a text ensures
-abbrev Puts : ℕ → Bytes → Bytes → Bytes → ℕ → Type 0
-Puts at s d out r = (r ≡ at + length s) × (out ≡ pasted at s d)
-
--- nothing is put
-nothing-put : (at n : ℕ) (d : Bytes) → Put at n [] d d at
-nothing-put at n d = puts [] n (omega arith) (omega arith, sym (pasted-nil at d))
 
 pub none-carried : (at n : ℕ) (d : Bytes) → n ≡ 0 → Put at 23 (carriedWords n) d d at
 unfolding carriedWords
-none-carried at n d e = rw (eq-eqb n 0 e) (nothing-put at 23 d)
+none-carried at n d e = rw (eq-eqb n 0 e) (puts-nothing at 23 d)
 
 pub carried-put : (n : ℕ) {at p q r : ℕ} {d o x z : Bytes} → (n ≡ 0 → ⊥) → at ≤ length d
     → Puts at (ascii " (") d o p
@@ -55,7 +46,7 @@ refusal-put number carried a b c e f =
 pub no-entry : (kind : Bytes) (n at : ℕ) (d name : Bytes) (found : Bool) → found ≡ false → (o : Option Bytes) → Found o found name
     → Put at (length kind + 814) (entryWords kind n o) d d at
 unfolding entryWords
-no-entry kind n at d name found e none f = nothing-put at (length kind + 814) d
+no-entry kind n at d name found e none f = puts-nothing at (length kind + 814) d
 no-entry kind n at d name found e (some b) f = clash (f .told) e
 
 pub entry-put : (kind : Bytes) (n : ℕ) (name : Bytes) (found : Bool) {at p q r s t : ℕ} {d o x y z w : Bytes} → at ≤ length d → length (escape name) ≤ 768

@@ -12,7 +12,8 @@ use Rattle.format.specs.Bytes.{Bytes, begins, splitFrom}
 use Rattle.format.proofs.Lists.{bcase}
 use Rattle.format.proofs.Splitting.Split.{split-found, split-other}
 use Rattle.sections.specs.Place.{place}
-use Rattle.sections.proofs.Begins.{begins-short, begins-take}
+use Rattle.octets.proofs.Comparing.{begins-short}
+use Rattle.sections.proofs.Begins.{begins-take}
 
 pub place-here : (p t : Bytes) → 0 < length p → begins p t ≡ true → place p t ≡ 0
 unfolding begins
