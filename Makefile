@@ -19,6 +19,7 @@ show: rt
 # own once more: 'N passed, 0 failed'.
 test: rt cargo
 	@rt fmt --check
+	@.ci/refused-test
 	@said=$$(mktemp) && { rt ci | tee "$$said"; mv "$$said" target/ci.out; }
 	@tail -n 1 target/ci.out | grep -q ' passed, 0 failed$$'
 	@.ci/refused
