@@ -12,25 +12,7 @@ Inv-loop m head sum₀ i₀ sum i = Unit
 abbrev μ-loop : tie.MeasureT-loop
 μ-loop m head sum₀ i₀ sum i = 6 - i
 
-loop-holds : tie.Need-loop-holds Inv-loop μ-loop
-loop-holds c = search needs
-
-try-number-requires : tie.Need-try-number-requires Inv-loop μ-loop
-try-number-requires c κs = search needs
-
-add-i : tie.Need-add-i Inv-loop μ-loop
-add-i c = search needs
-
-loop-less : tie.Need-loop-less Inv-loop μ-loop
-loop-less c = search needs
-
-loop-again : tie.Need-loop-again Inv-loop μ-loop
-loop-again c = search needs
-
-returns : tie.Need-returns Inv-loop μ-loop
-returns c = search needs
-
 pub try-numbers-spec : {M : Type 1} → statement M
 try-numbers-spec =
     tie.close
-    (tie.spec Inv-loop μ-loop loop-holds try-number-requires add-i loop-less loop-again returns)
+    (tie.spec Inv-loop μ-loop (λ c. search needs) (λ c κs. search needs) (λ c. search needs) (λ c. search needs) (λ c. search needs) (λ c. search needs))

@@ -9,13 +9,14 @@ use Rattle.format.specs.Calls.{append, headerCount}
 use Rattle.format.specs.Lending.{headLent, lengths}
 use Rattle.held.proofs.Parts.{held-parts}
 use Rattle.placing.proofs.Bounds.{bounds}
+use Rattle.format.proofs.Typed.{the}
 use Rattle.changing.proofs.Groups.{too-many, appended, headers-fit}
 use Rattle.changing.proofs.append_held.Statement.{statement}
 use Rattle.changing.proofs.append_held.Tie as tie
 
 add-t11 : tie.Need-add-t11
 add-t11 c =
-    let start = c .before .before .before .before .before .before .before in
+    let start : tie.Start = search in
     let m = start .args .m in
     let head = start .args .head .now in
     let within = bounds m head (start .pre .0) in
@@ -24,7 +25,7 @@ add-t11 c =
 returns : tie.Need-returns
 unfolding append lengths headerCount table
 returns c =
-    let start = c .before .before .before .before .before .before .before in
+    let start : tie.Start = search in
     let m = start .args .m in
     let head = start .args .head .now in
     let within = bounds m head (start .pre .0) in
@@ -33,48 +34,38 @@ returns c =
     (omega (arith, within .headers)) refl
 
 headers-of-requires : tie.Need-headers-of-requires
-headers-of-requires c κs = c .before .before .before .before .before .before .before .pre .0
+headers-of-requires c κs = the tie.Start (search) .pre .0
 
 add-put-header : tie.Need-add-put-header
 add-put-header c =
-    let start = c .before .before .before .before .before .before .before .before .before .before in
+    let start : tie.Start = search in
     let m = start .args .m in
     let head = start .args .head .now in
     let within = bounds m head (start .pre .0) in
-    let fit = headers-fit m head (start .args .name .now) _ _ _ (start .pre .0) (c .before .before .headers-of .ensures) in
+    let fit = headers-fit m head (start .args .name .now) _ _ _ (start .pre .0) (the tie.After-headers-of (search) .headers-of .ensures) in
     omega (arith, fit .0, within .used, start .good)
 
 put-header-requires : tie.Need-put-header-requires
 put-header-requires c κs =
-    let start = c .before .before .before .before .before .before .before .before .before .before in
+    let start : tie.Start = search in
     let m = start .args .m in
     let head = start .args .head .now in
     let within = bounds m head (start .pre .0) in
-    let fit = headers-fit m head (start .args .name .now) _ _ _ (start .pre .0) (c .before .before .headers-of .ensures) in
+    let fit = headers-fit m head (start .args .name .now) _ _ _ (start .pre .0) (the tie.After-headers-of (search) .headers-of .ensures) in
     (start .pre .0, ((omega (arith, fit .0), omega arith), start .pre .1))
-
-same-length : tie.Need-same-length
-same-length c = search needs
 
 returns-2 : tie.Need-returns-2
 returns-2 c =
-    let start = c .before .before .before .before .before .before .before .before .before .before .before .before .before in
+    let start : tie.Start = search in
     let m = start .args .m in
     let head = start .args .head .now in
     let within = bounds m head (start .pre .0) in
     λ k x held spelt.
-    appended m _ head _ _ k held (start .args .name .now) _ _ _ (c .before .before .before .before .before .headers-of .ensures k held) x (spelt .name-is) (omega arith)
+    appended m _ head _ _ k held (start .args .name .now) _ _ _ (the tie.After-headers-of (search) .headers-of .ensures k held) x (spelt .name-is) (omega arith)
     (held-parts (headLent m head) k held .headers)
-    (λ l g h parted. c .before .before .put-header .ensures k l g h x held parted spelt)
+    (λ l g h parted. the tie.After-put-header (search) .put-header .ensures k l g h x held parted spelt)
 
 pub append-held-spec : {M : Type 1} → statement M
 append-held-spec =
     tie.close
-    (tie.spec
-    add-t11
-    returns
-    headers-of-requires
-    add-put-header
-    put-header-requires
-    same-length
-    returns-2)
+    (tie.spec add-t11 returns headers-of-requires add-put-header put-header-requires (λ c. search needs) returns-2)

@@ -10,17 +10,11 @@ use Rattle.format.proofs.Characters.Table.{within-below}
 use Rattle.characters.proofs.leads.Statement.{statement}
 use Rattle.characters.proofs.leads.Tie as tie
 
-array-read-if1 : tie.Need-array-read-if1
-array-read-if1 c = search needs
-
 returns : tie.Need-returns
 returns c = sym (within-below _ (getD (c .before .args .t1) 0 0 to getD (c .before .args .t1) 1 0) (omega arith))
-
-array-read-result : tie.Need-array-read-result
-array-read-result c = search needs
 
 returns-2 : tie.Need-returns-2
 returns-2 c = rw (le-leb (getD (c .before .args .t1) 0 0) (c .before .args .b) (omega arith)) refl
 
 pub leads-spec : {M : Type 1} → statement M
-leads-spec = tie.close (tie.spec array-read-if1 returns array-read-result returns-2)
+leads-spec = tie.close (tie.spec (λ c. search needs) returns (λ c. search needs) returns-2)

@@ -7,6 +7,7 @@ use native.Mathlib.Omega.{arith}
 use lib.ListN.{drop}
 use borrow.Author.Needs.{needs}
 use Rattle.format.specs.Characters.{table-3-7}
+use Rattle.format.proofs.Typed.{the}
 use Rattle.characters.specs.Coded.{rowIn, leadRow}
 use Rattle.characters.proofs.Coding.{row-lead, row-hit, row-miss, row-none}
 use Rattle.characters.proofs.row_of.Statement.{statement}
@@ -21,33 +22,18 @@ abbrev μ-loop : tie.MeasureT-loop
 loop-holds : tie.Need-loop-holds Inv-loop μ-loop
 loop-holds c = (omega arith, unfold leadRow in omega arith)
 
-mul-row : tie.Need-mul-row Inv-loop μ-loop
-mul-row c = search needs
-
-element-copy-out-row : tie.Need-element-copy-out-row Inv-loop μ-loop
-element-copy-out-row c = search needs
-
-leads-requires : tie.Need-leads-requires Inv-loop μ-loop
-leads-requires c κs = search needs
-
 returns : tie.Need-returns Inv-loop μ-loop
 returns c =
-    let z = c .before .before .before .before .before in
-    let loop = c .before .before .before .before .loop in
+    let z : tie.Start Inv-loop μ-loop = search in
+    let loop = the (tie.At-loop Inv-loop μ-loop) (search) .loop in
     let e =
     row-hit (loop .i) (z .args .b) (omega arith) (sym (row-lead (z .args .rows .now) (loop .i) (z .args .b) (z .pre) (omega arith)) ∙ sym (c .before .leads .ensures) ∙ c .if1 .taken) in
     omega (arith, e, loop .inv .1)
 
-add-i : tie.Need-add-i Inv-loop μ-loop
-add-i c = search needs
-
-loop-less : tie.Need-loop-less Inv-loop μ-loop
-loop-less c = search needs
-
 loop-again : tie.Need-loop-again Inv-loop μ-loop
 loop-again c =
-    let z = c .before .before .before .before .before in
-    let loop = c .before .before .before .before .loop in
+    let z : tie.Start Inv-loop μ-loop = search in
+    let loop = the (tie.At-loop Inv-loop μ-loop) (search) .loop in
     let e =
     row-miss (loop .i) (z .args .b) (omega arith) (sym (row-lead (z .args .rows .now) (loop .i) (z .args .b) (z .pre) (omega arith)) ∙ sym (c .before .leads .ensures) ∙ c .if1 .left) in
     (omega arith, omega (arith, e, loop .inv .1))
@@ -55,20 +41,10 @@ loop-again c =
 returns-2 : tie.Need-returns-2 Inv-loop μ-loop
 returns-2 c =
     let e : c .before .loop .i ≡ 9 = omega arith in
-    omega (arith, rw e at (c .before .loop .inv .1), row-none (c .before .before .args .b))
+    omega (arith, rw e at (c .before .loop .inv .1), row-none (the (tie.Start Inv-loop μ-loop) (search) .args .b))
 
 pub row-of-spec : {M : Type 1} → statement M
 row-of-spec =
     tie.close
-    (tie.spec
-    Inv-loop
-    μ-loop
-    loop-holds
-    mul-row
-    element-copy-out-row
-    leads-requires
-    returns
-    add-i
-    loop-less
-    loop-again
-    returns-2)
+    (tie.spec Inv-loop μ-loop loop-holds (λ c. search needs) (λ c. search needs) (λ c κs. search needs) returns (λ c. search needs)
+    (λ c. search needs) loop-again returns-2)

@@ -9,52 +9,38 @@ use Rattle.format.proofs.Answers.{zero-passes}
 use Rattle.format.proofs.Messages.Layout.{contentType-length}
 use Rattle.placing.proofs.Bounds.{bounds}
 use Rattle.changing.proofs.Steps.{handed-on, does-passed, does-accepted}
+use Rattle.format.proofs.Typed.{the}
 use Rattle.content_line.proofs.Typing.{type-laid}
 use Rattle.content_line.proofs.set_type.Statement.{statement}
 use Rattle.content_line.proofs.set_type.Tie as tie
 
-validate-content-type-requires : tie.Need-validate-content-type-requires
-validate-content-type-requires c κs = search needs
-
-refused-requires : tie.Need-refused-requires
-refused-requires c κs = search needs
-
 returns : tie.Need-returns
 unfolding readType
 returns c =
-    let start = c .before .before .before .before .before .before in
+    let start : tie.Start = search in
     let m = start .args .m in
     let head = start .args .head .now in
     let t = start .args .t .now in
-    λ k held. handed-on m head _ _ (contentType t) _ (c .refused .ensures) (c .before .before .before .validate-content-type .ensures) (c .before .if1 .taken)
+    λ k held. handed-on m head _ _ (contentType t) _ (c .refused .ensures) (the tie.After-validate-content-type (search) .validate-content-type .ensures) (c .before .if1 .taken)
 
 put-type-requires : tie.Need-put-type-requires
 put-type-requires c κs =
-    let start = c .before .before .before .before .before .before in
-    let short = contentType-length (start .args .t .now) (zero-passes (contentType (start .args .t .now)) _ (c .before .before .before .validate-content-type .ensures) (c .before .if1 .left)) in
+    let start : tie.Start = search in
+    let short = contentType-length (start .args .t .now) (zero-passes (contentType (start .args .t .now)) _ (the tie.After-validate-content-type (search) .validate-content-type .ensures) (c .before .if1 .left)) in
     (short, omega (arith, bounds (start .args .m) (start .args .head .now) (start .pre) .used))
-
-same-length : tie.Need-same-length
-same-length c = search needs
 
 returns-2 : tie.Need-returns-2
 unfolding readType
 returns-2 c =
-    let start = c .before .before .before .before .before .before .before .before .before in
+    let start : tie.Start = search in
     let m = start .args .m in
     let head = start .args .head .now in
     let t = start .args .t .now in
-    let passed = zero-passes (contentType t) _ (c .before .before .before .before .before .before .validate-content-type .ensures) (c .before .before .before .before .if1 .left) in
+    let passed = zero-passes (contentType t) _ (the tie.After-validate-content-type (search) .validate-content-type .ensures) (the tie.Else1 (search) .if1 .left) in
     λ k held. does-passed (headLent m head) _ _ (contentType t) _ passed
-    (does-accepted (headLent m head) _ (withType k t) (type-laid m head t _ k held (contentType-length t passed) (c .before .before .put-type .ensures)))
+    (does-accepted (headLent m head) _ (withType k t) (type-laid m head t _ k held (contentType-length t passed) (the tie.After-put-type (search) .put-type .ensures)))
 
 pub set-type-spec : {M : Type 1} → statement M
 set-type-spec =
     tie.close
-    (tie.spec
-    validate-content-type-requires
-    refused-requires
-    returns
-    put-type-requires
-    same-length
-    returns-2)
+    (tie.spec (λ c κs. search needs) (λ c κs. search needs) returns put-type-requires (λ c. search needs) returns-2)

@@ -20,28 +20,19 @@ abbrev μ-loop : tie.MeasureT-loop
 loop-holds : tie.Need-loop-holds Inv-loop μ-loop
 loop-holds c = (omega arith, refl)
 
-shared-slice-read-zero : tie.Need-shared-slice-read-zero Inv-loop μ-loop
-shared-slice-read-zero c = search needs
-
-add-i : tie.Need-add-i Inv-loop μ-loop
-add-i c = search needs
-
-loop-less : tie.Need-loop-less Inv-loop μ-loop
-loop-less c = search needs
-
 loop-again : tie.Need-loop-again Inv-loop μ-loop
 loop-again c =
-    let at-loop = c .before .before in
+    let at-loop : tie.At-loop Inv-loop μ-loop = search in
     let s = at-loop .before .args .s .now in
     (omega arith, at-loop .loop .inv .1 ∙ all-step (eqb 0) s (at-loop .loop .i) (at-loop .loop .zero) (omega arith))
 
 returns : tie.Need-returns Inv-loop μ-loop
 returns c =
-    let at-loop = c .before in
+    let at-loop : tie.At-loop Inv-loop μ-loop = search in
     let s = at-loop .before .args .s .now in
     sym (at-loop .loop .inv .1 ∙ all-end (eqb 0) s (at-loop .loop .i) (at-loop .loop .zero) (omega arith))
 
 pub is-zero-spec : {M : Type 1} → statement M
 is-zero-spec =
     tie.close
-    (tie.spec Inv-loop μ-loop loop-holds shared-slice-read-zero add-i loop-less loop-again returns)
+    (tie.spec Inv-loop μ-loop loop-holds (λ c. search needs) (λ c. search needs) (λ c. search needs) loop-again returns)

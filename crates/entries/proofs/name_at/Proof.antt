@@ -8,41 +8,35 @@ use Rattle.entries.proofs.name_at.Tie as tie
 
 add-from : tie.Need-add-from
 add-from c =
-    let start = c .before in
+    let start : tie.Start = search in
     let s = start .args .s .now in
     let at = start .args .at in
     omega (arith, within-parts s at (start .pre))
 
 name-len-requires : tie.Need-name-len-requires
 name-len-requires c κs =
-    let start = c .before in
+    let start : tie.Start = search in
     let s = start .args .s .now in
     let at = start .args .at in
     within-numbers s at (start .pre)
 
 add-to : tie.Need-add-to
 add-to c =
-    let start = c .before .before in
+    let start : tie.Start = search in
     let s = start .args .s .now in
     let at = start .args .at in
     omega (arith, within-parts s at (start .pre), c .name-len .ensures .0)
 
-sub-result : tie.Need-sub-result
-sub-result c = search needs
-
-part-result-start : tie.Need-part-result-start
-part-result-start c = search needs
-
 part-result-end : tie.Need-part-result-end
 part-result-end c =
-    let start = c .before .before in
+    let start : tie.Start = search in
     let s = start .args .s .now in
     let at = start .args .at in
     omega (arith, within-parts s at (start .pre), c .name-len .ensures .0)
 
 returns : tie.Need-returns
 returns c =
-    let start = c .before .before .before in
+    let start : tie.Start = search in
     let s = start .args .s .now in
     let at = start .args .at in
     name-part s at (c .before .name-len .result) (c .before .name-len .ensures .0)
@@ -50,11 +44,4 @@ returns c =
 pub name-at-spec : {M : Type 1} → statement M
 name-at-spec =
     tie.close
-    (tie.spec
-    add-from
-    name-len-requires
-    add-to
-    sub-result
-    part-result-start
-    part-result-end
-    returns)
+    (tie.spec add-from name-len-requires add-to (λ c. search needs) (λ c. search needs) part-result-end returns)

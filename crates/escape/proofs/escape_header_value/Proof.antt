@@ -7,6 +7,7 @@ use borrow.Author.Needs.{needs}
 use Rattle.format.specs.Bytes.{Bytes, pasted}
 use Rattle.format.specs.Escaping.{escape}
 use Rattle.octets.proofs.Paste.{pasted-nil, length-pasted}
+use Rattle.format.proofs.Typed.{the}
 use Rattle.escape.specs.Forms.{takesForm, widthForm, writtenForm}
 use Rattle.escape.proofs.BareBytes.{bare-escape}
 use Rattle.escape.proofs.Turns.{width-written, takes-some, turn-within, turn-length, turn-pasted, escape-end}
@@ -23,74 +24,59 @@ Inv-loop out₀ at v to₀ i₀ out to i =
 abbrev μ-loop : tie.MeasureT-loop
 μ-loop out₀ at v to₀ i₀ out to i = length v - i
 
-bare-text-requires : tie.Need-bare-text-requires Inv-loop μ-loop
-bare-text-requires c κs = search needs
-
 copy-at-requires : tie.Need-copy-at-requires Inv-loop μ-loop
 copy-at-requires c κs =
-    omega (arith, ap length (bare-escape (c .before .before .before .before .before .args .v .now) (sym (c .before .before .bare-text .ensures) ∙ c .before .if1 .taken)))
+    omega (arith, ap length (bare-escape (the (tie.Start Inv-loop μ-loop) (search) .args .v .now) (sym (the (tie.After-bare-text Inv-loop μ-loop) (search) .bare-text .ensures) ∙ c .before .if1 .taken)))
 
 -- the value is written as it is
-as-is : (c : tie.After-slice-known2 Inv-loop μ-loop) → escape (c .before .before .before .before .before .before .before .before .args .v .now) ≡ c .before .before .before .before .before .before .before .before .args .v .now
+as-is : (c : tie.After-slice-known2 Inv-loop μ-loop) → escape (the (tie.Start Inv-loop μ-loop) (search) .args .v .now) ≡ the (tie.Start Inv-loop μ-loop) (search) .args .v .now
 as-is c =
-    bare-escape (c .before .before .before .before .before .before .before .before .args .v .now)
-    (sym (c .before .before .before .before .before .bare-text .ensures) ∙ c .before .before .before .before .if1 .taken)
+    bare-escape (the (tie.Start Inv-loop μ-loop) (search) .args .v .now)
+    (sym (the (tie.After-bare-text Inv-loop μ-loop) (search) .bare-text .ensures) ∙ the (tie.Then1 Inv-loop μ-loop) (search) .if1 .taken)
 
 add-result : tie.Need-add-result Inv-loop μ-loop
 add-result c =
     omega (arith, ap length (as-is c))
 
-same-length : tie.Need-same-length Inv-loop μ-loop
-same-length c = search needs
-
 returns : tie.Need-returns Inv-loop μ-loop
-returns c = rw (as-is c) (refl, c .before .before .copy-at .ensures)
+returns c = rw (as-is c) (refl, the (tie.After-copy-at Inv-loop μ-loop) (search) .copy-at .ensures)
 
 loop-holds : tie.Need-loop-holds Inv-loop μ-loop
 loop-holds c = (omega arith, refl, refl, refl)
 
-form-at-requires : tie.Need-form-at-requires Inv-loop μ-loop
-form-at-requires c κs = search needs
-
 put-form-requires : tie.Need-put-form-requires Inv-loop μ-loop
 put-form-requires c κs =
-    let at-loop = c .before .before .before in
-    let v = at-loop .before .before .before .before .before .args .v .now in
+    let at-loop : tie.At-loop Inv-loop μ-loop = search in
+    let v = the (tie.Start Inv-loop μ-loop) (search) .args .v .now in
     let f = c .before .form-at in
     omega (arith, turn-length v (at-loop .loop .i) (f .result) (omega arith) (f .ensures))
 
-width-requires : tie.Need-width-requires Inv-loop μ-loop
-width-requires c κs = search needs
-
 add-to : tie.Need-add-to Inv-loop μ-loop
 add-to c =
-    let at-loop = c .before .before .before .before .before .before .before in
-    let v = at-loop .before .before .before .before .before .args .v .now in
-    let f = c .before .before .before .before .before .form-at in
+    let at-loop : tie.At-loop Inv-loop μ-loop = search in
+    let v = the (tie.Start Inv-loop μ-loop) (search) .args .v .now in
+    let f = the (tie.After-form-at Inv-loop μ-loop) (search) .form-at in
     omega (arith, turn-length v (at-loop .loop .i) (f .result) (omega arith) (f .ensures), c .width .ensures)
-
-takes-requires : tie.Need-takes-requires Inv-loop μ-loop
-takes-requires c κs = search needs
 
 add-i : tie.Need-add-i Inv-loop μ-loop
 add-i c =
-    let at-loop = c .before .before .before .before .before .before .before .before in
-    let v = at-loop .before .before .before .before .before .args .v .now in
-    let f = c .before .before .before .before .before .before .form-at in
+    let at-loop : tie.At-loop Inv-loop μ-loop = search in
+    let v = the (tie.Start Inv-loop μ-loop) (search) .args .v .now in
+    let f = the (tie.After-form-at Inv-loop μ-loop) (search) .form-at in
     omega (arith, turn-within v (at-loop .loop .i) (f .result) (omega arith) (f .ensures), c .takes .ensures)
 
 loop-less : tie.Need-loop-less Inv-loop μ-loop
-loop-less c = omega (arith, takes-some (c .before .before .before .before .before .before .form-at .result), c .takes .ensures)
+loop-less c = omega (arith, takes-some (the (tie.After-form-at Inv-loop μ-loop) (search) .form-at .result), c .takes .ensures)
 
 loop-again : tie.Need-loop-again Inv-loop μ-loop
 loop-again c =
-    let at-loop = c .before .before .before .before .before .before .before .before in
-    let v = at-loop .before .before .before .before .before .args .v .now in
+    let at-loop : tie.At-loop Inv-loop μ-loop = search in
+    let v = the (tie.Start Inv-loop μ-loop) (search) .args .v .now in
     let i = at-loop .loop .i in
     let to = at-loop .loop .to in
     let out = at-loop .loop .out in
-    let f = c .before .before .before .before .before .before .form-at in
-    let put = c .before .before .before .before .put-form in
+    let f = the (tie.After-form-at Inv-loop μ-loop) (search) .form-at in
+    let put = the (tie.After-put-form Inv-loop μ-loop) (search) .put-form in
     let l = turn-length v i (f .result) (omega arith) (f .ensures) in
     rw (c .takes .ensures, c .before .width .ensures) (
       turn-within v i (f .result) (omega arith) (f .ensures),
@@ -103,12 +89,9 @@ loop-again c =
           ∙ at-loop .loop .inv .3,
     )
 
-same-length-2 : tie.Need-same-length-2 Inv-loop μ-loop
-same-length-2 c = search needs
-
 returns-2 : tie.Need-returns-2 Inv-loop μ-loop
 returns-2 c =
-    let v = c .before .before .before .before .before .before .args .v .now in
+    let v = the (tie.Start Inv-loop μ-loop) (search) .args .v .now in
     let l = c .before .loop in
     let e = escape-end v (l .i) (omega arith) in
     (omega (arith, ap length e), sym (pasted-nil (l .to) (l .out)) ∙ ap (λ (t : Bytes). pasted (l .to) t (l .out)) (sym e) ∙ l .inv .2)
@@ -116,22 +99,5 @@ returns-2 c =
 pub escape-header-value-spec : {M : Type 1} → statement M
 escape-header-value-spec =
     tie.close
-    (tie.spec
-    Inv-loop
-    μ-loop
-    bare-text-requires
-    copy-at-requires
-    add-result
-    same-length
-    returns
-    loop-holds
-    form-at-requires
-    put-form-requires
-    width-requires
-    add-to
-    takes-requires
-    add-i
-    loop-less
-    loop-again
-    same-length-2
-    returns-2)
+    (tie.spec Inv-loop μ-loop (λ c κs. search needs) copy-at-requires add-result (λ c. search needs) returns loop-holds (λ c κs. search needs)
+    put-form-requires (λ c κs. search needs) add-to (λ c κs. search needs) add-i loop-less loop-again (λ c. search needs) returns-2)

@@ -6,6 +6,7 @@ use lib.ListN.{length, drop}
 use borrow.Author.Needs.{needs}
 use Rattle.format.specs.Escaping.{escape}
 use Rattle.format.proofs.Escaping.Escape.{escape-length}
+use Rattle.format.proofs.Typed.{the}
 use Rattle.escape.proofs.BareBytes.{bare-escape}
 use Rattle.escape.proofs.Turns.{takes-some, turn-within, turn-length, escape-end}
 use Rattle.escape.proofs.escaped_len.Statement.{statement}
@@ -17,47 +18,35 @@ Inv-loop v n₀ i₀ n i = (i ≤ length v) × (n + length (escape (drop i v)) �
 abbrev μ-loop : tie.MeasureT-loop
 μ-loop v n₀ i₀ n i = length v - i
 
-bare-text-requires : tie.Need-bare-text-requires Inv-loop μ-loop
-bare-text-requires c κs = search needs
-
 returns : tie.Need-returns Inv-loop μ-loop
-returns c = sym (ap length (bare-escape (c .before .before .before .args .v .now) (sym (c .before .bare-text .ensures) ∙ c .if1 .taken)))
+returns c = sym (ap length (bare-escape (the (tie.Start Inv-loop μ-loop) (search) .args .v .now) (sym (c .before .bare-text .ensures) ∙ c .if1 .taken)))
 
 loop-holds : tie.Need-loop-holds Inv-loop μ-loop
 loop-holds c = omega arith
 
-form-at-requires : tie.Need-form-at-requires Inv-loop μ-loop
-form-at-requires c κs = search needs
-
-width-requires : tie.Need-width-requires Inv-loop μ-loop
-width-requires c κs = search needs
-
 add-n : tie.Need-add-n Inv-loop μ-loop
 add-n c =
-    let at-loop = c .before .before .before in
-    let v = at-loop .before .before .before .before .args .v .now in
+    let at-loop : tie.At-loop Inv-loop μ-loop = search in
+    let v = the (tie.Start Inv-loop μ-loop) (search) .args .v .now in
     let f = c .before .form-at in
     omega (arith, turn-length v (at-loop .loop .i) (f .result) (omega arith) (f .ensures), escape-length v, c .width .ensures)
 
-takes-requires : tie.Need-takes-requires Inv-loop μ-loop
-takes-requires c κs = search needs
-
 add-i : tie.Need-add-i Inv-loop μ-loop
 add-i c =
-    let at-loop = c .before .before .before .before in
-    let v = at-loop .before .before .before .before .args .v .now in
-    let f = c .before .before .form-at in
+    let at-loop : tie.At-loop Inv-loop μ-loop = search in
+    let v = the (tie.Start Inv-loop μ-loop) (search) .args .v .now in
+    let f = the (tie.After-form-at Inv-loop μ-loop) (search) .form-at in
     omega (arith, turn-within v (at-loop .loop .i) (f .result) (omega arith) (f .ensures), c .takes .ensures)
 
 loop-less : tie.Need-loop-less Inv-loop μ-loop
-loop-less c = omega (arith, takes-some (c .before .before .form-at .result), c .takes .ensures)
+loop-less c = omega (arith, takes-some (the (tie.After-form-at Inv-loop μ-loop) (search) .form-at .result), c .takes .ensures)
 
 loop-again : tie.Need-loop-again Inv-loop μ-loop
 loop-again c =
-    let at-loop = c .before .before .before .before in
-    let v = at-loop .before .before .before .before .args .v .now in
+    let at-loop : tie.At-loop Inv-loop μ-loop = search in
+    let v = the (tie.Start Inv-loop μ-loop) (search) .args .v .now in
     let i = at-loop .loop .i in
-    let f = c .before .before .form-at in
+    let f = the (tie.After-form-at Inv-loop μ-loop) (search) .form-at in
     rw (c .takes .ensures, c .before .width .ensures) (
       turn-within v i (f .result) (omega arith) (f .ensures),
       omega (arith, turn-length v i (f .result) (omega arith) (f .ensures)),
@@ -65,23 +54,11 @@ loop-again c =
 
 returns-2 : tie.Need-returns-2 Inv-loop μ-loop
 returns-2 c =
-    let v = c .before .before .before .before .before .args .v .now in
+    let v = the (tie.Start Inv-loop μ-loop) (search) .args .v .now in
     omega (arith, ap length (escape-end v (c .before .loop .i) (omega arith)))
 
 pub escaped-len-spec : {M : Type 1} → statement M
 escaped-len-spec =
     tie.close
-    (tie.spec
-    Inv-loop
-    μ-loop
-    bare-text-requires
-    returns
-    loop-holds
-    form-at-requires
-    width-requires
-    add-n
-    takes-requires
-    add-i
-    loop-less
-    loop-again
-    returns-2)
+    (tie.spec Inv-loop μ-loop (λ c κs. search needs) returns loop-holds (λ c κs. search needs) (λ c κs. search needs) add-n (λ c κs. search needs)
+    add-i loop-less loop-again returns-2)

@@ -5,6 +5,7 @@ use native.Mathlib.Omega.{arith}
 use borrow.Author.Needs.{needs}
 use borrow.Author.Tests.{le-leb, lt-leb}
 use Rattle.format.specs.Limits.{maxHeaders, maxContents}
+use Rattle.format.proofs.Typed.{the}
 use Rattle.held.specs.Holding.{numbersHold}
 use Rattle.held.proofs.numbers_hold.Statement.{statement}
 use Rattle.held.proofs.numbers_hold.Tie as tie
@@ -18,25 +19,22 @@ returns c =
 returns-2 : tie.Need-returns-2
 unfolding numbersHold
 returns-2 c =
-    let m = c .before .before .before .args .m in
-    let store = c .before .before .before .args .store in
+    let m = the tie.Start (search) .args .m in
+    let store = the tie.Start (search) .args .store in
     rw (le-leb 256 store (omega arith), lt-leb (m .typelen) 256 (omega arith)) refl
 
 returns-3 : tie.Need-returns-3
 unfolding numbersHold
 returns-3 c =
-    let m = c .before .before .before .before .before .args .m in
-    let store = c .before .before .before .before .before .args .store in
+    let m = the tie.Start (search) .args .m in
+    let store = the tie.Start (search) .args .store in
     rw (le-leb 256 store (omega arith), le-leb (m .typelen) 256 (omega arith), lt-leb (m .headerlen) (store - 256) (omega arith)) refl
-
-sub-if4 : tie.Need-sub-if4
-sub-if4 c = search needs
 
 returns-4 : tie.Need-returns-4
 unfolding numbersHold
 returns-4 c =
-    let m = c .before .before .before .before .before .before .before .before .args .m in
-    let store = c .before .before .before .before .before .before .before .before .args .store in
+    let m = the tie.Start (search) .args .m in
+    let store = the tie.Start (search) .args .store in
     rw (
       le-leb 256 store (omega arith),
       le-leb (m .typelen) 256 (omega arith),
@@ -47,8 +45,8 @@ returns-4 c =
 returns-5 : tie.Need-returns-5
 unfolding numbersHold
 returns-5 c =
-    let m = c .before .before .before .before .before .before .before .before .before .before .args .m in
-    let store = c .before .before .before .before .before .before .before .before .before .before .args .store in
+    let m = the tie.Start (search) .args .m in
+    let store = the tie.Start (search) .args .store in
     rw (
       le-leb 256 store (omega arith),
       le-leb (m .typelen) 256 (omega arith),
@@ -60,8 +58,8 @@ returns-5 c =
 returns-6 : tie.Need-returns-6
 unfolding numbersHold
 returns-6 c =
-    let m = c .before .before .before .before .before .before .before .before .before .before .before .before .args .m in
-    let store = c .before .before .before .before .before .before .before .before .before .before .before .before .args .store in
+    let m = the tie.Start (search) .args .m in
+    let store = the tie.Start (search) .args .store in
     rw (
       le-leb 256 store (omega arith),
       le-leb (m .typelen) 256 (omega arith),
@@ -74,8 +72,8 @@ returns-6 c =
 returns-7 : tie.Need-returns-7
 unfolding numbersHold
 returns-7 c =
-    let m = c .before .before .before .before .before .before .before .before .before .before .before .before .before .args .m in
-    let store = c .before .before .before .before .before .before .before .before .before .before .before .before .before .args .store in
+    let m = the tie.Start (search) .args .m in
+    let store = the tie.Start (search) .args .store in
     rw (
       le-leb 256 store (omega arith),
       le-leb (m .typelen) 256 (omega arith),
@@ -88,4 +86,4 @@ returns-7 c =
 pub numbers-hold-spec : {M : Type 1} → statement M
 numbers-hold-spec =
     tie.close
-    (tie.spec returns returns-2 returns-3 sub-if4 returns-4 returns-5 returns-6 returns-7)
+    (tie.spec returns returns-2 returns-3 (λ c. search needs) returns-4 returns-5 returns-6 returns-7)

@@ -3,6 +3,7 @@ use mathlib.Core.Path.{refl}
 use Prim.Native.Nat.{_-_}
 use native.Mathlib.Omega.{arith}
 use borrow.Author.Tests.{le-leb, lt-leb}
+use Rattle.format.proofs.Typed.{the}
 use Rattle.held.specs.Holding.{sizesHold}
 use Rattle.held.proofs.sizes_hold.Statement.{statement}
 use Rattle.held.proofs.sizes_hold.Tie as tie
@@ -10,26 +11,26 @@ use Rattle.held.proofs.sizes_hold.Tie as tie
 returns : tie.Need-returns
 unfolding sizesHold
 returns c =
-    let args = c .before .before .args in
+    let args = the tie.Start (search) .args in
     rw (lt-leb (args .h .size) (args .store) (omega arith)) refl
 
 returns-2 : tie.Need-returns-2
 unfolding sizesHold
 returns-2 c =
-    let args = c .before .before .before .before .args in
+    let args = the tie.Start (search) .args in
     rw (le-leb (args .h .size) (args .store) (omega arith), lt-leb 16 (args .h .size) (omega arith)) refl
 
 returns-3 : tie.Need-returns-3
 unfolding sizesHold
 returns-3 c =
-    let args = c .before .before .before .before .before .before .before .args in
+    let args = the tie.Start (search) .args in
     let h = args .h in
     rw (le-leb (h .size) (args .store) (omega arith), le-leb 16 (h .size) (omega arith), lt-leb (h .valuelen) (h .size - 16) (omega arith)) refl
 
 returns-4 : tie.Need-returns-4
 unfolding sizesHold
 returns-4 c =
-    let args = c .before .before .before .before .before .before .before .before .args in
+    let args = the tie.Start (search) .args in
     let h = args .h in
     rw (le-leb (h .size) (args .store) (omega arith), le-leb 16 (h .size) (omega arith), le-leb (h .valuelen) (h .size - 16) (omega arith)) refl
 

@@ -2,51 +2,39 @@
 use mathlib.Core.Path.{sym, ap, _∙_}
 use borrow.Author.Needs.{needs}
 use borrow.Author.Tests.{not-false}
+use Rattle.format.proofs.Typed.{the}
 use Rattle.judging.specs.Kinds.{follows}
 use Rattle.judging.specs.Judging.{entryHolds}
 use Rattle.judging.proofs.InTurn.{fails, goes-on}
 use Rattle.judging.proofs.entry_holds.Statement.{statement}
 use Rattle.judging.proofs.entry_holds.Tie as tie
 
-is-shaped-requires : tie.Need-is-shaped-requires
-is-shaped-requires c κs = search needs
-
 returns : tie.Need-returns
 unfolding entryHolds
 returns c = fails _ _ (c .before .is-shaped .ensures) (c .if1 .taken)
 
 entry-fits-requires : tie.Need-entry-fits-requires
-entry-fits-requires c κs = (c .before .before .before .before .pre .0, sym (c .before .is-shaped .ensures) ∙ not-false _ (c .if1 .left))
+entry-fits-requires c κs = (the tie.Start (search) .pre .0, sym (c .before .is-shaped .ensures) ∙ not-false _ (c .if1 .left))
 
 returns-2 : tie.Need-returns-2
 unfolding entryHolds
 returns-2 c =
     fails _ _ (c .before .entry-fits .ensures) (c .if2 .taken)
-    ∙ goes-on _ _ (c .before .before .before .is-shaped .ensures) (c .before .before .if1 .left)
+    ∙ goes-on _ _ (the tie.After-is-shaped (search) .is-shaped .ensures) (the tie.Else1 (search) .if1 .left)
 
 name-at-requires : tie.Need-name-at-requires
-name-at-requires c κs = sym (c .before .before .before .is-shaped .ensures) ∙ not-false _ (c .before .before .if1 .left)
-
-name-follows-requires : tie.Need-name-follows-requires
-name-follows-requires c κs = search needs
+name-at-requires c κs = sym (the tie.After-is-shaped (search) .is-shaped .ensures) ∙ not-false _ (the tie.Else1 (search) .if1 .left)
 
 returns-3 : tie.Need-returns-3
 unfolding entryHolds
 returns-3 c =
-    let args = c .before .before .before .before .before .before .before .before .args in
+    let args = the tie.Start (search) .args in
     c .name-follows .ensures
     ∙ ap (follows (args .kind) (args .last .now)) (c .before .name-at .ensures)
-    ∙ goes-on _ _ (c .before .before .before .entry-fits .ensures) (c .before .before .if2 .left)
-    ∙ goes-on _ _ (c .before .before .before .before .before .is-shaped .ensures) (c .before .before .before .before .if1 .left)
+    ∙ goes-on _ _ (the tie.After-entry-fits (search) .entry-fits .ensures) (the tie.Else2 (search) .if2 .left)
+    ∙ goes-on _ _ (the tie.After-is-shaped (search) .is-shaped .ensures) (the tie.Else1 (search) .if1 .left)
 
 pub entry-holds-spec : {M : Type 1} → statement M
 entry-holds-spec =
     tie.close
-    (tie.spec
-    is-shaped-requires
-    returns
-    entry-fits-requires
-    returns-2
-    name-at-requires
-    name-follows-requires
-    returns-3)
+    (tie.spec (λ c κs. search needs) returns entry-fits-requires returns-2 name-at-requires (λ c κs. search needs) returns-3)

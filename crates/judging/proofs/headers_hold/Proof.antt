@@ -3,6 +3,7 @@ use mathlib.Core.Path.{sym, _∙_}
 use mathlib.Core.List.{[]}
 use borrow.Author.Needs.{needs}
 use borrow.Author.Tests.{not-false}
+use Rattle.format.proofs.Typed.{the}
 use Rattle.judging.specs.Judging.{headersHold}
 use Rattle.judging.specs.declared.kinds.Kind.the-variants.{Header}
 use Rattle.judging.proofs.Entries.{holds-shaped}
@@ -10,27 +11,21 @@ use Rattle.judging.proofs.InTurn.{fails, goes-on}
 use Rattle.judging.proofs.headers_hold.Statement.{statement}
 use Rattle.judging.proofs.headers_hold.Tie as tie
 
-table-requires : tie.Need-table-requires
-table-requires c κs = search needs
-
-entries-hold-in-requires : tie.Need-entries-hold-in-requires
-entries-hold-in-requires c κs = search needs
-
 returns : tie.Need-returns
 unfolding headersHold
 returns c = fails _ _ (c .before .entries-hold-in .ensures) (c .if1 .taken)
 
 tails-hold-requires : tie.Need-tails-hold-requires
 tails-hold-requires c κs =
-    let held = c .before .before in
-    let made = held .before .before in
-    let args = made .before .before .args in
+    let held : tie.After-entries-hold-in = search in
+    let made : tie.After-table = search in
+    let args = the tie.Start (search) .args in
     (made .table .ensures, holds-shaped Header (args .count) [] (args .s .now) (sym (held .entries-hold-in .ensures) ∙ not-false _ (c .before .if1 .left)))
 
 returns-2 : tie.Need-returns-2
 unfolding headersHold
-returns-2 c = c .tails-hold .ensures ∙ goes-on _ _ (c .before .before .before .entries-hold-in .ensures) (c .before .before .if1 .left)
+returns-2 c = c .tails-hold .ensures ∙ goes-on _ _ (the tie.After-entries-hold-in (search) .entries-hold-in .ensures) (the tie.Else1 (search) .if1 .left)
 
 pub headers-hold-spec : {M : Type 1} → statement M
 headers-hold-spec =
-    tie.close (tie.spec table-requires entries-hold-in-requires returns tails-hold-requires returns-2)
+    tie.close (tie.spec (λ c κs. search needs) (λ c κs. search needs) returns tails-hold-requires returns-2)

@@ -4,11 +4,8 @@ use borrow.Author.Needs.{needs}
 use Rattle.leaves.proofs.leaves_reads.Statement.{statement}
 use Rattle.leaves.proofs.leaves_reads.Tie as tie
 
-unescaped-len-requires : tie.Need-unescaped-len-requires
-unescaped-len-requires c κs = search needs
-
 returns : tie.Need-returns
 returns c = ap (λ m. m .ok) (c .unescaped-len .ensures)
 
 pub leaves-reads-spec : {M : Type 1} → statement M
-leaves-reads-spec = tie.close (tie.spec unescaped-len-requires returns)
+leaves-reads-spec = tie.close (tie.spec (λ c κs. search needs) returns)

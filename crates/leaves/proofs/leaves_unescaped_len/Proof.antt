@@ -4,11 +4,8 @@ use borrow.Author.Needs.{needs}
 use Rattle.leaves.proofs.leaves_unescaped_len.Statement.{statement}
 use Rattle.leaves.proofs.leaves_unescaped_len.Tie as tie
 
-unescaped-len-requires : tie.Need-unescaped-len-requires
-unescaped-len-requires c κs = search needs
-
 returns : tie.Need-returns
 returns c = ap (λ m. m .len) (c .unescaped-len .ensures)
 
 pub leaves-unescaped-len-spec : {M : Type 1} → statement M
-leaves-unescaped-len-spec = tie.close (tie.spec unescaped-len-requires returns)
+leaves-unescaped-len-spec = tie.close (tie.spec (λ c κs. search needs) returns)

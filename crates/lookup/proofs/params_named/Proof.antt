@@ -4,26 +4,24 @@ use Rattle.format.specs.Lending.{headLent}
 use Rattle.held.proofs.Held.{held-total}
 use Rattle.nth.proofs.Lists.{headers-shaped, header-params}
 use Rattle.named.specs.Named.{headersNamed}
+use Rattle.format.proofs.Typed.{the}
 use Rattle.lookup.proofs.Looking.{nth-named}
 use Rattle.lookup.proofs.params_named.Statement.{statement}
 use Rattle.lookup.proofs.params_named.Tie as tie
 
-headers-named-requires : tie.Need-headers-named-requires
-headers-named-requires c κs = search needs
-
 nth-params-requires : tie.Need-nth-params-requires
 nth-params-requires c κs =
     let listed = c .before .headers-named .ensures in
-    let args = c .before .before .before .before .before .args in
+    let args = the tie.Start (search) .args in
     let held = held-total (headLent (args .m) (args .head .now)) in
     headers-shaped (headersNamed (held .0) (args .name .now)) _ _ (listed (held .0) (held .1))
 
 returns : tie.Need-returns
 returns c =
-    let listed = c .before .before .headers-named .ensures in
-    let args = c .before .before .before .before .before .before .args in
+    let listed = the tie.After-headers-named (search) .headers-named .ensures in
+    let args = the tie.Start (search) .args in
     λ o held. rw (nth-named o (args .name .now) (args .k)) (header-params (headersNamed o (args .name .now)) _ _ (listed o held) (args .k) _ _ (c .nth-params .ensures))
 
 pub params-named-spec : {M : Type 1} → statement M
 params-named-spec =
-    tie.close (tie.spec headers-named-requires nth-params-requires returns)
+    tie.close (tie.spec (λ c κs. search needs) nth-params-requires returns)

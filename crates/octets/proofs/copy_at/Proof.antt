@@ -6,6 +6,7 @@ use lib.ListN.{length, take, getD, set, length-set}
 use lib.Seq.{take-all}
 use borrow.Author.Needs.{needs}
 use Rattle.format.specs.Bytes.{Bytes, pasted}
+use Rattle.format.proofs.Typed.{the}
 use Rattle.octets.proofs.Paste.{pasted-nil, pasted-next}
 use Rattle.octets.proofs.copy_at.Statement.{statement}
 use Rattle.octets.proofs.copy_at.Tie as tie
@@ -19,24 +20,15 @@ abbrev μ-loop : tie.MeasureT-loop
 loop-holds : tie.Need-loop-holds Inv-loop μ-loop
 loop-holds c = (omega arith, sym (pasted-nil (c .args .at) (c .args .dst .now)), refl)
 
-shared-slice-read-dst : tie.Need-shared-slice-read-dst Inv-loop μ-loop
-shared-slice-read-dst c = search needs
-
 add-dst : tie.Need-add-dst Inv-loop μ-loop
 add-dst c = omega arith
 
 slice-write-dst : tie.Need-slice-write-dst Inv-loop μ-loop
 slice-write-dst c = omega arith
 
-add-i : tie.Need-add-i Inv-loop μ-loop
-add-i c = search needs
-
-loop-less : tie.Need-loop-less Inv-loop μ-loop
-loop-less c = search needs
-
 loop-again : tie.Need-loop-again Inv-loop μ-loop
 loop-again c =
-    let at-loop = c .before .before in
+    let at-loop : tie.At-loop Inv-loop μ-loop = search in
     let args = at-loop .before .args in
     let i = at-loop .loop .i in (
       omega arith,
@@ -45,14 +37,11 @@ loop-again c =
       simp length-set (at-loop .loop .inv .2),
     )
 
-same-length : tie.Need-same-length Inv-loop μ-loop
-same-length c = search needs
-
 returns : tie.Need-returns Inv-loop μ-loop
 returns c =
-    let args = c .before .before .args in
+    let args = the (tie.Start Inv-loop μ-loop) (search) .args in
     c .before .loop .inv .1 ∙ ap (λ (l : Bytes). pasted (args .at) l (args .dst .now)) (take-all (c .before .loop .i) (args .src .now) (omega arith))
 
 pub copy-at-spec : {M : Type 1} → statement M
 copy-at-spec =
-    tie.close (tie.spec Inv-loop μ-loop loop-holds shared-slice-read-dst add-dst slice-write-dst add-i loop-less loop-again same-length returns)
+    tie.close (tie.spec Inv-loop μ-loop loop-holds (λ c. search needs) add-dst slice-write-dst (λ c. search needs) (λ c. search needs) loop-again (λ c. search needs) returns)

@@ -18,9 +18,6 @@ abbrev μ-loop : tie.MeasureT-loop
 loop-holds : tie.Need-loop-holds Inv-loop μ-loop
 loop-holds c = (omega arith, fill-none (c .args .s .now) 0, refl)
 
-slice-write-s : tie.Need-slice-write-s Inv-loop μ-loop
-slice-write-s c = search needs
-
 add-i : tie.Need-add-i Inv-loop μ-loop
 add-i c = omega arith
 
@@ -29,19 +26,16 @@ loop-less c = omega arith
 
 loop-again : tie.Need-loop-again Inv-loop μ-loop
 loop-again c =
-    let at-loop = c .before in
+    let at-loop : tie.At-loop Inv-loop μ-loop = search in
     let i = at-loop .loop .i in (
       omega arith,
       ap (λ (l : List ℕ). set l i 0) (at-loop .loop .inv .1) ∙ fill-more i 0 (at-loop .before .args .s .now) (omega arith),
       simp length-set (at-loop .loop .inv .2),
     )
 
-same-length : tie.Need-same-length Inv-loop μ-loop
-same-length c = search needs
-
 returns : tie.Need-returns Inv-loop μ-loop
 returns c =
-    let at-loop = c .before in
+    let at-loop : tie.At-loop Inv-loop μ-loop = search in
     let s₀ = at-loop .before .args .s .now in
     let e : at-loop .loop .i ≡ length s₀ = omega arith in
     at-loop .loop .inv .1
@@ -50,4 +44,4 @@ returns c =
     ∙ append-nil (replicate (length s₀) 0)
 
 pub zero-fill-spec : {M : Type 1} → statement M
-zero-fill-spec = tie.close (tie.spec Inv-loop μ-loop loop-holds slice-write-s add-i loop-less loop-again same-length returns)
+zero-fill-spec = tie.close (tie.spec Inv-loop μ-loop loop-holds (λ c. search needs) add-i loop-less loop-again (λ c. search needs) returns)

@@ -7,6 +7,7 @@ use borrow.Author.Needs.{needs}
 use Rattle.format.specs.Bytes.{Bytes, less-sign, greater-sign}
 use Rattle.format.specs.LookingUp.{closed, address}
 use Rattle.octets.proofs.Find.{found-within}
+use Rattle.format.proofs.Typed.{the}
 use Rattle.parts.proofs.Signs.{not-opened, opened, not-closed, closed-at}
 use Rattle.parts.proofs.address.Statement.{statement}
 use Rattle.parts.proofs.address.Tie as tie
@@ -14,30 +15,24 @@ use Rattle.parts.proofs.address.Tie as tie
 -- what is searched for the `>`
 abbrev rest : tie.Else1 → Bytes
 rest c =
-    let v = c .before .before .before .args .value .now in
+    let v = the tie.Start (search) .args .value .now in
     take (length v - (c .before .find-byte .result + 1)) (drop (c .before .find-byte .result + 1) v)
 
 -- the place of the `<` is within the value
-inside : (c : tie.Else1) → c .before .find-byte .result < length (c .before .before .before .args .value .now)
+inside : (c : tie.Else1) → c .before .find-byte .result < length (the tie.Start (search) .args .value .now)
 inside c =
-    let v = c .before .before .before .args .value .now in
+    let v = the tie.Start (search) .args .value .now in
     omega (arith, c .if1 .left, found-within less-sign v (c .before .find-byte .result) (c .before .find-byte .ensures))
 
 -- what stands behind it
-behind : (c : tie.Else1) → address (c .before .before .before .args .value .now) ≡ closed (rest c)
+behind : (c : tie.Else1) → address (the tie.Start (search) .args .value .now) ≡ closed (rest c)
 behind c =
-    opened (c .before .before .before .args .value .now) (c .before .find-byte .result) (c .before .find-byte .ensures) (inside c)
-
-find-byte-requires : tie.Need-find-byte-requires
-find-byte-requires c κs = search needs
-
-absent-requires : tie.Need-absent-requires
-absent-requires c κs = search needs
+    opened (the tie.Start (search) .args .value .now) (c .before .find-byte .result) (c .before .find-byte .ensures) (inside c)
 
 returns : tie.Need-returns
 returns c =
-    let called = c .before .before .before in
-    rw (not-opened (called .before .before .args .value .now) (called .find-byte .result) (called .find-byte .ensures) (c .before .before .if1 .taken))
+    let called : tie.After-find-byte = search in
+    rw (not-opened (the tie.Start (search) .args .value .now) (called .find-byte .result) (called .find-byte .ensures) (the tie.Then1 (search) .if1 .taken))
     (c .absent .ensures)
 
 add-from : tie.Need-add-from
@@ -49,46 +44,26 @@ sub-rest c = omega (arith, inside c)
 part-rest-start : tie.Need-part-rest-start
 part-rest-start c = omega (arith, inside c)
 
-part-rest-end : tie.Need-part-rest-end
-part-rest-end c = search needs
-
-find-byte-requires-2 : tie.Need-find-byte-requires-2
-find-byte-requires-2 c κs = search needs
-
-absent-requires-2 : tie.Need-absent-requires-2
-absent-requires-2 c κs = search needs
-
 returns-2 : tie.Need-returns-2
 returns-2 c =
-    let called = c .before .before .before in
-    let less = called .before .before in
-    rw (behind less, not-closed (rest less) (called .find-byte2 .result) (called .find-byte2 .ensures) (c .before .before .if2 .taken)) (c .absent2 .ensures)
+    let called : tie.After-find-byte2 = search in
+    let less : tie.Else1 = search in
+    rw (behind less, not-closed (rest less) (called .find-byte2 .result) (called .find-byte2 .ensures) (the tie.Then2 (search) .if2 .taken)) (c .absent2 .ensures)
 
 part-requires : tie.Need-part-requires
 part-requires c κs =
-    let called = c .before .before in
-    (omega arith, found-within greater-sign (rest (called .before .before)) (called .find-byte2 .result) (called .find-byte2 .ensures))
+    let called : tie.After-find-byte2 = search in
+    (omega arith, found-within greater-sign (rest (search)) (called .find-byte2 .result) (called .find-byte2 .ensures))
 
 returns-3 : tie.Need-returns-3
 returns-3 c =
-    let called = c .before .before .before in
-    let less = called .before .before in
+    let called : tie.After-find-byte2 = search in
+    let less : tie.Else1 = search in
     let within = found-within greater-sign (rest less) (called .find-byte2 .result) (called .find-byte2 .ensures) in
-    rw (behind less, closed-at (rest less) (called .find-byte2 .result) (called .find-byte2 .ensures) (omega (arith, within, c .before .before .if2 .left))) (c .part .ensures)
+    rw (behind less, closed-at (rest less) (called .find-byte2 .result) (called .find-byte2 .ensures) (omega (arith, within, the tie.Else2 (search) .if2 .left))) (c .part .ensures)
 
 pub address-spec : {M : Type 1} → statement M
 address-spec =
     tie.close
-    (tie.spec
-    find-byte-requires
-    absent-requires
-    returns
-    add-from
-    sub-rest
-    part-rest-start
-    part-rest-end
-    find-byte-requires-2
-    absent-requires-2
-    returns-2
-    part-requires
-    returns-3)
+    (tie.spec (λ c κs. search needs) (λ c κs. search needs) returns add-from sub-rest part-rest-start (λ c. search needs) (λ c κs. search needs)
+    (λ c κs. search needs) returns-2 part-requires returns-3)

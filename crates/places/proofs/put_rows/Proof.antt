@@ -3,6 +3,7 @@ use Prim.Native.Nat.{_+_, _-_, _*_, _≤_}
 use native.Mathlib.Omega.{arith}
 use lib.ListN.{length, drop}
 use borrow.Author.Needs.{needs}
+use Rattle.format.proofs.Typed.{the}
 use Rattle.places.specs.Fronts.{frontIn}
 use Rattle.places.proofs.Fronts.{Rowed, rowed-start, rowed-end, rowed-length, rowed-front, rowed-numbers, rowed-room, rowed-on}
 use Rattle.places.proofs.put_rows.Statement.{statement}
@@ -16,27 +17,27 @@ abbrev μ-loop : tie.MeasureT-loop
 
 loop-holds : tie.Need-loop-holds Inv-loop μ-loop
 loop-holds c =
-    let start = c .before .before in
+    let start : tie.Start Inv-loop μ-loop = search in
     rowed-start (start .args .s .now) (start .args .out .now) (start .args .rows) (start .pre .0) (start .pre .1)
 
 -- the next entry is within the store, and its row within the output
 module _ (c : tie.In-loop Inv-loop μ-loop) where
-  numbers : c .before .loop .at + 16 ≤ length (c .before .before .before .before .args .s .now)
+  numbers : c .before .loop .at + 16 ≤ length (the (tie.Start Inv-loop μ-loop) (search) .args .s .now)
   numbers =
-      let args = c .before .before .before .before .args in
+      let args = the (tie.Start Inv-loop μ-loop) (search) .args in
       let l = c .before .loop in
       rowed-numbers (args .s .now) (args .out .now) (args .rows) (l .out) (l .at) (l .i) (l .inv) (omega arith)
 
-  front : c .before .loop .at + frontIn (drop (c .before .loop .at) (c .before .before .before .before .args .s .now))
-      ≤ length (c .before .before .before .before .args .s .now)
+  front : c .before .loop .at + frontIn (drop (c .before .loop .at) (the (tie.Start Inv-loop μ-loop) (search) .args .s .now))
+      ≤ length (the (tie.Start Inv-loop μ-loop) (search) .args .s .now)
   front =
-      let args = c .before .before .before .before .args in
+      let args = the (tie.Start Inv-loop μ-loop) (search) .args in
       let l = c .before .loop in
       rowed-front (args .s .now) (args .out .now) (args .rows) (l .out) (l .at) (l .i) (l .inv) (omega arith)
 
   room : 4 * c .before .loop .i + 4 ≤ length (c .before .loop .out)
   room =
-      let args = c .before .before .before .before .args in
+      let args = the (tie.Start Inv-loop μ-loop) (search) .args in
       let l = c .before .loop in
       rowed-room (args .s .now) (args .out .now) (args .rows) (l .out) (l .at) (l .i) (l .inv) (omega arith)
 
@@ -48,29 +49,23 @@ value-len-requires c κs = numbers (c .before)
 
 mul-put-row : tie.Need-mul-put-row Inv-loop μ-loop
 mul-put-row c =
-    let l = c .before .before .before .before in
-    omega (arith, l .loop .inv .room, l .before .before .before .good)
+    let l : tie.At-loop Inv-loop μ-loop = search in
+    omega (arith, l .loop .inv .room, the (tie.Start Inv-loop μ-loop) (search) .good)
 
 add-put-row : tie.Need-add-put-row Inv-loop μ-loop
-add-put-row c = omega (arith, numbers (c .before .before .before))
+add-put-row c = omega (arith, numbers (the (tie.In-loop Inv-loop μ-loop) (search)))
 
 param-count-requires : tie.Need-param-count-requires Inv-loop μ-loop
-param-count-requires c κs = numbers (c .before .before .before)
+param-count-requires c κs = numbers (the (tie.In-loop Inv-loop μ-loop) (search))
 
 put-row-requires : tie.Need-put-row-requires Inv-loop μ-loop
-put-row-requires c κs = room (c .before .before .before .before)
-
-add-at : tie.Need-add-at Inv-loop μ-loop
-add-at c = search needs
-
-add-at-2 : tie.Need-add-at-2 Inv-loop μ-loop
-add-at-2 c = search needs
+put-row-requires c κs = room (the (tie.In-loop Inv-loop μ-loop) (search))
 
 add-at-3 : tie.Need-add-at-3 Inv-loop μ-loop
 unfolding frontIn
 add-at-3 c =
-    let named = c .before .before .before .before .before .before in
-    omega (arith, front (named .before), named .name-len .ensures .0, c .before .before .before .before .before .value-len .ensures .0)
+    let named : tie.After-name-len Inv-loop μ-loop = search in
+    omega (arith, front (named .before), named .name-len .ensures .0, the (tie.After-value-len Inv-loop μ-loop) (search) .value-len .ensures .0)
 
 add-i : tie.Need-add-i Inv-loop μ-loop
 add-i c = omega arith
@@ -80,46 +75,30 @@ loop-less c = omega arith
 
 loop-again : tie.Need-loop-again Inv-loop μ-loop
 loop-again c =
-    let put = c .before .before in
-    let counted = put .before in
-    let valued = counted .before .before in
-    let named = valued .before in
-    let at-loop = named .before .before in
-    let args = at-loop .before .before .before .args in
+    let put : tie.After-put-row Inv-loop μ-loop = search in
+    let counted : tie.After-param-count Inv-loop μ-loop = search in
+    let valued : tie.After-value-len Inv-loop μ-loop = search in
+    let named : tie.After-name-len Inv-loop μ-loop = search in
+    let at-loop : tie.At-loop Inv-loop μ-loop = search in
+    let args = the (tie.Start Inv-loop μ-loop) (search) .args in
     let l = at-loop .loop in
     rowed-on (args .s .now) (args .out .now) (args .rows) (l .out) (l .at) (l .i) (l .inv) (omega arith) _ _ _ _ (named .name-len .ensures .0) (valued .value-len .ensures .0)
     (counted .param-count .ensures .0) (put .put-row .ensures)
 
 same-length : tie.Need-same-length Inv-loop μ-loop
 same-length c =
-    let args = c .before .before .before .before .args in
+    let args = the (tie.Start Inv-loop μ-loop) (search) .args in
     let l = c .before .loop in
     rowed-length (args .s .now) (args .out .now) (args .rows) (l .out) (l .at) (l .i) (l .inv)
 
 returns : tie.Need-returns Inv-loop μ-loop
 returns c =
-    let args = c .before .before .before .before .args in
+    let args = the (tie.Start Inv-loop μ-loop) (search) .args in
     let l = c .before .loop in
     rowed-end (args .s .now) (args .out .now) (args .rows) (l .out) (l .at) (l .i) (l .inv) (omega arith)
 
 pub put-rows-spec : {M : Type 1} → statement M
 put-rows-spec =
     tie.close
-    (tie.spec
-    Inv-loop
-    μ-loop
-    loop-holds
-    name-len-requires
-    value-len-requires
-    mul-put-row
-    add-put-row
-    param-count-requires
-    put-row-requires
-    add-at
-    add-at-2
-    add-at-3
-    add-i
-    loop-less
-    loop-again
-    same-length
-    returns)
+    (tie.spec Inv-loop μ-loop loop-holds name-len-requires value-len-requires mul-put-row add-put-row param-count-requires put-row-requires
+    (λ c. search needs) (λ c. search needs) add-at-3 add-i loop-less loop-again same-length returns)

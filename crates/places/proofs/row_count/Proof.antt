@@ -6,6 +6,7 @@ use lib.ListN.{length}
 use borrow.Author.Needs.{needs}
 use Rattle.held.proofs.Cases.{used-within}
 use Rattle.lookup.proofs.Counting.{headers-few, headers-in-order}
+use Rattle.format.proofs.Typed.{the}
 use Rattle.places.specs.Fronts.{rowsHeld}
 use Rattle.places.proofs.Held.{few}
 use Rattle.places.proofs.row_count.Statement.{statement}
@@ -15,47 +16,33 @@ within : (c : tie.Start) → 256 + (c .args .m .headerlen + c .args .m .contentl
 within c = used-within (c .args .m) (c .args .head .now) (c .pre)
 
 add-to : tie.Need-add-to
-add-to c = omega (arith, within (c .before .before))
-
-sub-count-all : tie.Need-sub-count-all
-sub-count-all c = search needs
-
-part-count-all-start : tie.Need-part-count-all-start
-part-count-all-start c = search needs
+add-to c = omega (arith, within (search))
 
 part-count-all-end : tie.Need-part-count-all-end
-part-count-all-end c = omega (arith, within (c .before .before))
+part-count-all-end c = omega (arith, within (search))
 
 count-all-requires : tie.Need-count-all-requires
 count-all-requires c κs =
-    let start = c .before .before .before in
+    let start : tie.Start = search in
     (headers-in-order (start .args .m) (start .args .head .now) (start .pre), headers-few (start .args .m) (start .args .head .now) (start .pre))
 
 add-result : tie.Need-add-result
 unfolding rowsHeld
 add-result c =
-    let start = c .before .before .before .before .before in
+    let start : tie.Start = search in
     omega (arith, few (start .args .m) (start .args .head .now) (start .pre), c .before .count-all .ensures)
 
 add-result-2 : tie.Need-add-result-2
 unfolding rowsHeld
 add-result-2 c =
-    let start = c .before .before .before .before .before .before in
-    omega (arith, few (start .args .m) (start .args .head .now) (start .pre), c .before .before .count-all .ensures)
+    let start : tie.Start = search in
+    omega (arith, few (start .args .m) (start .args .head .now) (start .pre), the tie.After-count-all (search) .count-all .ensures)
 
 returns : tie.Need-returns
 unfolding rowsHeld
-returns c = rw (c .before .before .count-all .ensures) refl
+returns c = rw (the tie.After-count-all (search) .count-all .ensures) refl
 
 pub row-count-spec : {M : Type 1} → statement M
 row-count-spec =
     tie.close
-    (tie.spec
-    add-to
-    sub-count-all
-    part-count-all-start
-    part-count-all-end
-    count-all-requires
-    add-result
-    add-result-2
-    returns)
+    (tie.spec add-to (λ c. search needs) (λ c. search needs) part-count-all-end count-all-requires add-result add-result-2 returns)

@@ -14,7 +14,7 @@ use Rattle.placing.proofs.contents_of.Tie as tie
 
 add-from : tie.Need-add-from
 add-from c =
-    let start = c .before .before .before in
+    let start : tie.Start = search in
     let m = start .args .m in
     let head = start .args .head .now in
     let within = bounds m head (start .pre) in
@@ -22,21 +22,15 @@ add-from c =
 
 add-end : tie.Need-add-end
 add-end c =
-    let start = c .before .before .before .before in
+    let start : tie.Start = search in
     let m = start .args .m in
     let head = start .args .head .now in
     let within = bounds m head (start .pre) in
     omega (arith, within .used, start .good)
 
-sub-find-group : tie.Need-sub-find-group
-sub-find-group c = search needs
-
-part-find-group-start : tie.Need-part-find-group-start
-part-find-group-start c = search needs
-
 part-find-group-end : tie.Need-part-find-group-end
 part-find-group-end c =
-    let start = c .before .before .before .before in
+    let start : tie.Start = search in
     let m = start .args .m in
     let head = start .args .head .now in
     let within = bounds m head (start .pre) in
@@ -44,7 +38,7 @@ part-find-group-end c =
 
 find-group-requires : tie.Need-find-group-requires
 find-group-requires c κs =
-    let start = c .before .before .before .before .before in
+    let start : tie.Start = search in
     let m = start .args .m in
     let head = start .args .head .now in
     let within = bounds m head (start .pre) in
@@ -52,7 +46,7 @@ find-group-requires c κs =
 
 returns : tie.Need-returns
 returns c =
-    let start = c .before .before .before .before .before .before in
+    let start : tie.Start = search in
     let m = start .args .m in
     let head = start .args .head .now in
     let within = bounds m head (start .pre) in
@@ -67,11 +61,4 @@ returns c =
 pub contents-of-spec : {M : Type 1} → statement M
 contents-of-spec =
     tie.close
-    (tie.spec
-    add-from
-    add-end
-    sub-find-group
-    part-find-group-start
-    part-find-group-end
-    find-group-requires
-    returns)
+    (tie.spec add-from add-end (λ c. search needs) (λ c. search needs) part-find-group-end find-group-requires returns)

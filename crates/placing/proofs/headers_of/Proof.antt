@@ -14,21 +14,15 @@ use Rattle.placing.proofs.headers_of.Tie as tie
 
 add-end : tie.Need-add-end
 add-end c =
-    let start = c .before .before .before in
+    let start : tie.Start = search in
     let m = start .args .m in
     let head = start .args .head .now in
     let within = bounds m head (start .pre) in
     omega (arith, within .used, start .good)
 
-sub-find-group : tie.Need-sub-find-group
-sub-find-group c = search needs
-
-part-find-group-start : tie.Need-part-find-group-start
-part-find-group-start c = search needs
-
 part-find-group-end : tie.Need-part-find-group-end
 part-find-group-end c =
-    let start = c .before .before .before in
+    let start : tie.Start = search in
     let m = start .args .m in
     let head = start .args .head .now in
     let within = bounds m head (start .pre) in
@@ -36,7 +30,7 @@ part-find-group-end c =
 
 find-group-requires : tie.Need-find-group-requires
 find-group-requires c κs =
-    let start = c .before .before .before .before in
+    let start : tie.Start = search in
     let m = start .args .m in
     let head = start .args .head .now in
     let within = bounds m head (start .pre) in
@@ -44,7 +38,7 @@ find-group-requires c κs =
 
 returns : tie.Need-returns
 returns c =
-    let start = c .before .before .before .before .before in
+    let start : tie.Start = search in
     let m = start .args .m in
     let head = start .args .head .now in
     let within = bounds m head (start .pre) in
@@ -59,10 +53,4 @@ returns c =
 pub headers-of-spec : {M : Type 1} → statement M
 headers-of-spec =
     tie.close
-    (tie.spec
-    add-end
-    sub-find-group
-    part-find-group-start
-    part-find-group-end
-    find-group-requires
-    returns)
+    (tie.spec add-end (λ c. search needs) (λ c. search needs) part-find-group-end find-group-requires returns)

@@ -3,6 +3,7 @@ use mathlib.Core.Path.{refl}
 use Prim.Native.Nat.{_-_}
 use native.Mathlib.Omega.{arith}
 use borrow.Author.Needs.{needs}
+use Rattle.format.proofs.Typed.{the}
 use Rattle.placing.proofs.Bounds.{bounds}
 use Rattle.placing.proofs.Putting.{content-put}
 use Rattle.placing.proofs.put_content.Statement.{statement}
@@ -10,7 +11,7 @@ use Rattle.placing.proofs.put_content.Tie as tie
 
 add-from : tie.Need-add-from
 add-from c =
-    let start = c .before .before .before .before in
+    let start : tie.Start = search in
     let m = start .args .m in
     let head = start .args .head .now in
     let within = bounds m head (start .pre .0) in
@@ -18,7 +19,7 @@ add-from c =
 
 add-used : tie.Need-add-used
 add-used c =
-    let start = c .before .before .before .before .before in
+    let start : tie.Start = search in
     let m = start .args .m in
     let head = start .args .head .now in
     let within = bounds m head (start .pre .0) in
@@ -26,7 +27,7 @@ add-used c =
 
 add-used-2 : tie.Need-add-used-2
 add-used-2 c =
-    let start = c .before .before .before .before .before in
+    let start : tie.Start = search in
     let m = start .args .m in
     let head = start .args .head .now in
     let within = bounds m head (start .pre .0) in
@@ -34,46 +35,34 @@ add-used-2 c =
 
 add-replace : tie.Need-add-replace
 add-replace c =
-    let start = c .before .before .before .before .before .before in
+    let start : tie.Start = search in
     let m = start .args .m in
     let head = start .args .head .now in
     let within = bounds m head (start .pre .0) in
     omega (arith, within .used, start .good, start .pre .1 .0)
 
-slice-aggregate-replace : tie.Need-slice-aggregate-replace
-slice-aggregate-replace c = search needs
-
 replace-requires : tie.Need-replace-requires
 replace-requires c κs =
-    let start = c .before .before .before .before .before .before .before in
+    let start : tie.Start = search in
     let m = start .args .m in
     let head = start .args .head .now in
     let within = bounds m head (start .pre .0) in
     ((omega (arith, within .used, start .pre .1 .0), within .used), ((refl, refl), (start .pre .1 .1 .0, start .pre .1 .1 .1, omega arith, omega arith)))
 
-same-length : tie.Need-same-length
-same-length c = search needs
-
 returns : tie.Need-returns
 returns c =
-    let start = c .before .before .before .before .before .before .before .before .before .before .before .before in
+    let start : tie.Start = search in
     let m = start .args .m in
     let head = start .args .head .now in
     let within = bounds m head (start .pre .0) in
     let args = start .args in
     λ k l g h held parted. content-put m m head _ _ k held (args .name .now) (args .value .now) (args .at) (args .old) (args .many)
-    l g h parted (c .before .before .before .before .replace .ensures .0) (c .before .before .before .before .replace .ensures .1)
+    l g h parted (the tie.After-replace (search) .replace .ensures .0) (the tie.After-replace (search) .replace .ensures .1)
     (λ _. refl) (λ z. absurd (c .if1 .taken z))
-
-add-size : tie.Need-add-size
-add-size c = search needs
-
-add-size-2 : tie.Need-add-size-2
-add-size-2 c = search needs
 
 sub-t13 : tie.Need-sub-t13
 sub-t13 c =
-    let start = c .before .before .before .before .before .before .before .before .before .before .before .before .before in
+    let start : tie.Start = search in
     let m = start .args .m in
     let head = start .args .head .now in
     let within = bounds m head (start .pre .0) in
@@ -81,7 +70,7 @@ sub-t13 c =
 
 add-t21 : tie.Need-add-t21
 add-t21 c =
-    let start = c .before .before .before .before .before .before .before .before .before .before .before .before .before in
+    let start : tie.Start = search in
     let m = start .args .m in
     let head = start .args .head .now in
     let within = bounds m head (start .pre .0) in
@@ -89,7 +78,7 @@ add-t21 c =
 
 sub-t17 : tie.Need-sub-t17
 sub-t17 c =
-    let start = c .before .before .before .before .before .before .before .before .before .before .before .before .before .before in
+    let start : tie.Start = search in
     let m = start .args .m in
     let head = start .args .head .now in
     let within = bounds m head (start .pre .0) in
@@ -97,43 +86,25 @@ sub-t17 c =
 
 add-t22 : tie.Need-add-t22
 add-t22 c =
-    let start = c .before .before .before .before .before .before .before .before .before .before .before .before .before .before in
+    let start : tie.Start = search in
     let m = start .args .m in
     let head = start .args .head .now in
     let within = bounds m head (start .pre .0) in
     omega (arith, within .used, start .good, start .pre .1)
 
-same-length-2 : tie.Need-same-length-2
-same-length-2 c = search needs
-
 returns-2 : tie.Need-returns-2
 returns-2 c =
-    let start = c .before .before .before .before .before .before .before .before .before .before .before .before .before .before in
+    let start : tie.Start = search in
     let m = start .args .m in
     let head = start .args .head .now in
     let within = bounds m head (start .pre .0) in
     let args = start .args in
     λ k l g h held parted. content-put m _ head _ _ k held (args .name .now) (args .value .now) (args .at) (args .old) (args .many)
-    l g h parted (c .before .before .before .before .before .before .replace .ensures .0) (c .before .before .before .before .before .before .replace .ensures .1)
-    (λ z. absurd (z (c .before .before .if1 .left))) (λ _. refl)
+    l g h parted (the tie.After-replace (search) .replace .ensures .0) (the tie.After-replace (search) .replace .ensures .1)
+    (λ z. absurd (z (the tie.Else1 (search) .if1 .left))) (λ _. refl)
 
 pub put-content-spec : {M : Type 1} → statement M
 put-content-spec =
     tie.close
-    (tie.spec
-    add-from
-    add-used
-    add-used-2
-    add-replace
-    slice-aggregate-replace
-    replace-requires
-    same-length
-    returns
-    add-size
-    add-size-2
-    sub-t13
-    add-t21
-    sub-t17
-    add-t22
-    same-length-2
-    returns-2)
+    (tie.spec add-from add-used add-used-2 add-replace (λ c. search needs) replace-requires (λ c. search needs) returns (λ c. search needs)
+    (λ c. search needs) sub-t13 add-t21 sub-t17 add-t22 (λ c. search needs) returns-2)

@@ -4,6 +4,7 @@ use Prim.Native.Nat.{_-_}
 use native.Mathlib.Omega.{arith}
 use borrow.Author.Needs.{needs}
 use Rattle.store.specs.Notations.{valueRead}
+use Rattle.format.proofs.Typed.{the}
 use Rattle.placing.proofs.Bounds.{bounds}
 use Rattle.placing.proofs.Putting.{header-put}
 use Rattle.placing.proofs.put_header.Statement.{statement}
@@ -11,7 +12,7 @@ use Rattle.placing.proofs.put_header.Tie as tie
 
 add-used : tie.Need-add-used
 add-used c =
-    let start = c .before .before .before .before .before in
+    let start : tie.Start = search in
     let m = start .args .m in
     let head = start .args .head .now in
     let within = bounds m head (start .pre .0) in
@@ -19,7 +20,7 @@ add-used c =
 
 add-used-2 : tie.Need-add-used-2
 add-used-2 c =
-    let start = c .before .before .before .before .before in
+    let start : tie.Start = search in
     let m = start .args .m in
     let head = start .args .head .now in
     let within = bounds m head (start .pre .0) in
@@ -27,7 +28,7 @@ add-used-2 c =
 
 add-replace : tie.Need-add-replace
 add-replace c =
-    let start = c .before .before .before .before .before .before in
+    let start : tie.Start = search in
     let m = start .args .m in
     let head = start .args .head .now in
     let within = bounds m head (start .pre .0) in
@@ -35,38 +36,26 @@ add-replace c =
 
 replace-requires : tie.Need-replace-requires
 replace-requires c κs =
-    let start = c .before .before .before .before .before .before in
+    let start : tie.Start = search in
     let m = start .args .m in
     let head = start .args .head .now in
     let within = bounds m head (start .pre .0) in
     ((omega (arith, within .used, start .pre .1 .0), within .used), start .pre .1 .1)
 
-same-length : tie.Need-same-length
-same-length c = search needs
-
 returns : tie.Need-returns
 returns c =
-    let start = c .before .before .before .before .before .before .before .before .before .before .before in
+    let start : tie.Start = search in
     let m = start .args .m in
     let head = start .args .head .now in
     let within = bounds m head (start .pre .0) in
     let args = start .args in
     λ k l g h x held parted spelt. header-put m m head _ _ k held (args .name .now) (valueRead (args .notation) (args .text .now)) (args .at) (args .old) (args .many)
-    (args .params) (args .tail .now) l g h x parted spelt (c .before .before .before .before .replace .ensures .0) (c .before .before .before .before .replace .ensures .1)
+    (args .params) (args .tail .now) l g h x parted spelt (the tie.After-replace (search) .replace .ensures .0) (the tie.After-replace (search) .replace .ensures .1)
     (λ _. refl) (λ z. absurd (c .if1 .taken z))
-
-add-entry : tie.Need-add-entry
-add-entry c = search needs
-
-add-entry-2 : tie.Need-add-entry-2
-add-entry-2 c = search needs
-
-add-entry-3 : tie.Need-add-entry-3
-add-entry-3 c = search needs
 
 sub-t15 : tie.Need-sub-t15
 sub-t15 c =
-    let start = c .before .before .before .before .before .before .before .before .before .before .before .before in
+    let start : tie.Start = search in
     let m = start .args .m in
     let head = start .args .head .now in
     let within = bounds m head (start .pre .0) in
@@ -74,7 +63,7 @@ sub-t15 c =
 
 add-t21 : tie.Need-add-t21
 add-t21 c =
-    let start = c .before .before .before .before .before .before .before .before .before .before .before .before in
+    let start : tie.Start = search in
     let m = start .args .m in
     let head = start .args .head .now in
     let within = bounds m head (start .pre .0) in
@@ -82,7 +71,7 @@ add-t21 c =
 
 sub-t20 : tie.Need-sub-t20
 sub-t20 c =
-    let start = c .before .before .before .before .before .before .before .before .before .before .before .before .before in
+    let start : tie.Start = search in
     let m = start .args .m in
     let head = start .args .head .now in
     let within = bounds m head (start .pre .0) in
@@ -90,42 +79,25 @@ sub-t20 c =
 
 add-t19 : tie.Need-add-t19
 add-t19 c =
-    let start = c .before .before .before .before .before .before .before .before .before .before .before .before .before in
+    let start : tie.Start = search in
     let m = start .args .m in
     let head = start .args .head .now in
     let within = bounds m head (start .pre .0) in
     omega (arith, within .used, start .good, start .pre .1)
 
-same-length-2 : tie.Need-same-length-2
-same-length-2 c = search needs
-
 returns-2 : tie.Need-returns-2
 returns-2 c =
-    let start = c .before .before .before .before .before .before .before .before .before .before .before .before .before in
+    let start : tie.Start = search in
     let m = start .args .m in
     let head = start .args .head .now in
     let within = bounds m head (start .pre .0) in
     let args = start .args in
     λ k l g h x held parted spelt. header-put m _ head _ _ k held (args .name .now) (valueRead (args .notation) (args .text .now)) (args .at) (args .old) (args .many)
-    (args .params) (args .tail .now) l g h x parted spelt (c .before .before .before .before .before .before .replace .ensures .0) (c .before .before .before .before .before .before .replace .ensures .1)
-    (λ z. absurd (z (c .before .before .if1 .left))) (λ _. rw (start .pre .1 .1 .0 .1) refl)
+    (args .params) (args .tail .now) l g h x parted spelt (the tie.After-replace (search) .replace .ensures .0) (the tie.After-replace (search) .replace .ensures .1)
+    (λ z. absurd (z (the tie.Else1 (search) .if1 .left))) (λ _. rw (start .pre .1 .1 .0 .1) refl)
 
 pub put-header-spec : {M : Type 1} → statement M
 put-header-spec =
     tie.close
-    (tie.spec
-    add-used
-    add-used-2
-    add-replace
-    replace-requires
-    same-length
-    returns
-    add-entry
-    add-entry-2
-    add-entry-3
-    sub-t15
-    add-t21
-    sub-t20
-    add-t19
-    same-length-2
-    returns-2)
+    (tie.spec add-used add-used-2 add-replace replace-requires (λ c. search needs) returns (λ c. search needs) (λ c. search needs) (λ c. search needs)
+    sub-t15 add-t21 sub-t20 add-t19 (λ c. search needs) returns-2)

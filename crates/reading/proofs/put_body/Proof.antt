@@ -12,6 +12,7 @@ use Rattle.octets.proofs.Paste.{pasted-start}
 use Rattle.sections.specs.Body.{joined}
 use Rattle.sections.proofs.Joining.{body-crlf}
 use Rattle.text_parts.specs.Judging.{bodyBehind}
+use Rattle.format.proofs.Typed.{the}
 use Rattle.reading.proofs.Stores.{body-long, body-short, body-laid}
 use Rattle.reading.proofs.put_body.Statement.{statement}
 use Rattle.reading.proofs.put_body.Tie as tie
@@ -30,89 +31,41 @@ part-is-body c h =
 joined-is-body : (c : tie.Start) → c .args .crlf ≡ false → joined (take (length (text-at c) - c .args .rest) (drop (c .args .rest) (text-at c))) ≡ body-at c
 joined-is-body c h = ap joined (rest-is (text-at c) (c .args .rest)) ∙ ap (λ (b : Bool). bodyBehind b (drop (c .args .rest) (text-at c))) (sym h)
 
-body-len-requires : tie.Need-body-len-requires
-body-len-requires c κs = search needs
-
-nothing-requires : tie.Need-nothing-requires
-nothing-requires c κs = search needs
-
 returns : tie.Need-returns
 returns c =
-    let start = c .before .before .before .before .before in
-    λ head k held. body-long (start .args .m) head (start .args .store .now) (body-at start) k held _ (c .before .before .body-len .ensures) _ _ (omega arith) (omega arith) (ap numbersOf (c .nothing .ensures))
-
-nothing-requires-2 : tie.Need-nothing-requires-2
-nothing-requires-2 c κs = search needs
+    let start : tie.Start = search in
+    λ head k held. body-long (start .args .m) head (start .args .store .now) (body-at start) k held _ (the tie.After-body-len (search) .body-len .ensures) _ _ (omega arith) (omega arith) (ap numbersOf (c .nothing .ensures))
 
 returns-2 : tie.Need-returns-2
 returns-2 c =
-    let start = c .before .before .before .before .before .before in
-    λ head k held. body-short (start .args .m) head (start .args .store .now) (body-at start) k held _ (c .before .before .before .body-len .ensures) _ _ (omega arith) (omega arith) (omega arith) (ap numbersOf (c .nothing2 .ensures))
-
-sub-copy-at : tie.Need-sub-copy-at
-sub-copy-at c = search needs
-
-part-copy-at-start : tie.Need-part-copy-at-start
-part-copy-at-start c = search needs
-
-part-copy-at-end : tie.Need-part-copy-at-end
-part-copy-at-end c = search needs
+    let start : tie.Start = search in
+    λ head k held. body-short (start .args .m) head (start .args .store .now) (body-at start) k held _ (the tie.After-body-len (search) .body-len .ensures) _ _ (omega arith) (omega arith) (omega arith) (ap numbersOf (c .nothing2 .ensures))
 
 copy-at-requires : tie.Need-copy-at-requires
 copy-at-requires c κs =
-    let start = c .before .before .before .before .before .before .before .before in
-    omega (arith, ap length (part-is-body start (c .before .before .if3 .taken)), c .before .before .before .before .before .body-len .ensures)
-
-same-length : tie.Need-same-length
-same-length c = search needs
+    let start : tie.Start = search in
+    omega (arith, ap length (part-is-body start (the tie.Then3 (search) .if3 .taken)), the tie.After-body-len (search) .body-len .ensures)
 
 returns-3 : tie.Need-returns-3
 returns-3 c =
-    let start = c .before .before .before .before .before .before .before .before .before .before .before in
-    let wrote = c .before .before .copy-at .ensures ∙ ap (λ (s : Bytes). pasted 0 s (start .args .store .now)) (part-is-body start (c .before .before .before .before .before .if3 .taken)) ∙ pasted-start (body-at start) (start .args .store .now) in
-    λ head k held. body-laid (start .args .m) head (start .args .store .now) (body-at start) k held _ (c .before .before .before .before .before .before .before .before .body-len .ensures) _ _ (omega arith) (omega arith) wrote refl
-
-sub-join-into : tie.Need-sub-join-into
-sub-join-into c = search needs
-
-part-join-into-start : tie.Need-part-join-into-start
-part-join-into-start c = search needs
-
-part-join-into-end : tie.Need-part-join-into-end
-part-join-into-end c = search needs
+    let start : tie.Start = search in
+    let wrote = the tie.After-copy-at (search) .copy-at .ensures ∙ ap (λ (s : Bytes). pasted 0 s (start .args .store .now)) (part-is-body start (the tie.Then3 (search) .if3 .taken)) ∙ pasted-start (body-at start) (start .args .store .now) in
+    λ head k held. body-laid (start .args .m) head (start .args .store .now) (body-at start) k held _ (the tie.After-body-len (search) .body-len .ensures) _ _ (omega arith) (omega arith) wrote refl
 
 join-into-requires : tie.Need-join-into-requires
 join-into-requires c κs =
-    let start = c .before .before .before .before .before .before .before .before in
-    omega (arith, ap length (joined-is-body start (c .before .before .if3 .left)), c .before .before .before .before .before .body-len .ensures)
-
-same-length-2 : tie.Need-same-length-2
-same-length-2 c = search needs
+    let start : tie.Start = search in
+    omega (arith, ap length (joined-is-body start (the tie.Else3 (search) .if3 .left)), the tie.After-body-len (search) .body-len .ensures)
 
 returns-4 : tie.Need-returns-4
 returns-4 c =
-    let start = c .before .before .before .before .before .before .before .before .before .before .before in
-    let wrote = c .before .before .join-into .ensures ∙ ap (λ (s : Bytes). pasted 0 s (start .args .store .now)) (joined-is-body start (c .before .before .before .before .before .if3 .left)) ∙ pasted-start (body-at start) (start .args .store .now) in
-    λ head k held. body-laid (start .args .m) head (start .args .store .now) (body-at start) k held _ (c .before .before .before .before .before .before .before .before .body-len .ensures) _ _ (omega arith) (omega arith) wrote refl
+    let start : tie.Start = search in
+    let wrote = the tie.After-join-into (search) .join-into .ensures ∙ ap (λ (s : Bytes). pasted 0 s (start .args .store .now)) (joined-is-body start (the tie.Else3 (search) .if3 .left)) ∙ pasted-start (body-at start) (start .args .store .now) in
+    λ head k held. body-laid (start .args .m) head (start .args .store .now) (body-at start) k held _ (the tie.After-body-len (search) .body-len .ensures) _ _ (omega arith) (omega arith) wrote refl
 
 pub put-body-spec : {M : Type 1} → statement M
 put-body-spec =
     tie.close
-    (tie.spec
-    body-len-requires
-    nothing-requires
-    returns
-    nothing-requires-2
-    returns-2
-    sub-copy-at
-    part-copy-at-start
-    part-copy-at-end
-    copy-at-requires
-    same-length
-    returns-3
-    sub-join-into
-    part-join-into-start
-    part-join-into-end
-    join-into-requires
-    same-length-2
-    returns-4)
+    (tie.spec (λ c κs. search needs) (λ c κs. search needs) returns (λ c κs. search needs) returns-2 (λ c. search needs) (λ c. search needs)
+    (λ c. search needs) copy-at-requires (λ c. search needs) returns-3 (λ c. search needs) (λ c. search needs) (λ c. search needs) join-into-requires
+    (λ c. search needs) returns-4)

@@ -19,6 +19,7 @@ use Rattle.sections.specs.Cuts.{separatorFor}
 use Rattle.sections.proofs.Sections.{Three}
 use Rattle.text_parts.specs.Judging.{bodyBehind}
 use Rattle.text_parts.proofs.Judging.{three, parts-stand, sections-stand}
+use Rattle.format.proofs.Typed.{the}
 use Rattle.reading.specs.Lines.{LinesRead}
 use Rattle.reading.proofs.Looping.{zero-accepted}
 use Rattle.reading.proofs.Outcomes.{headers-same, contents-same, no-cpim, no-room, headers-stop, contents-stop, body-decides}
@@ -52,176 +53,151 @@ texts-at : (c : tie.Start) → (isUtf8 (parts-at c .headers) ≡ true) × (isUtf
 texts-at c = sections-stand _ _ _ _ _ _ _ _ (c .pre)
 
 -- 3 does not apply
-said : (c : tie.Else1) → saysCpim (parts-at (c .before .before .before .before .before .before .before) .mime) ≡ true
+said : (c : tie.Else1) → saysCpim (parts-at (search) .mime) ≡ true
 unfolding saysCpim
 said c = sym (c .before .says .ensures) ∙ not-false _ (c .if1 .left)
 
 -- the headers: what their lines give, and the message where all are accepted
-kept-start : (c : tie.After-start) → length (c .start .last .0) ≡ length (c .before .before .before .before .before .before .before .before .before .before .args .head .now)
+kept-start : (c : tie.After-start) → length (c .start .last .0) ≡ length (the tie.Start (search) .args .head .now)
 kept-start c = c .start .kept .0
 
 headers-read : (c : tie.After-read-headers)
-    → LinesRead (headLent (c .read-headers .result .message) (c .read-headers .last .1 .1 .0)) (numbersOf (c .read-headers .result)) (each (readHeaderLine readHeader (lengths (lent-at (c .before .before .before .before .before .before .before .before .before .before .before .before .before .before .before .before)))) (lines (parts-at (c .before .before .before .before .before .before .before .before .before .before .before .before .before .before .before .before) .headers)) blank)
+    → LinesRead (headLent (c .read-headers .result .message) (c .read-headers .last .1 .1 .0)) (numbersOf (c .read-headers .result)) (each (readHeaderLine readHeader (lengths (lent-at (search)))) (lines (parts-at (search) .headers)) blank)
 unfolding lengths
 headers-read c =
-    subst (LinesRead _ _) (headers-same _ (lengths (lent-at (c .before .before .before .before .before .before .before .before .before .before .before .before .before .before .before .before))) (kept-start (c .before .before .before .before .before .before)) _ blank) (c .read-headers .ensures blank (c .before .before .before .before .before .before .start .ensures))
+    subst (LinesRead _ _) (headers-same _ (lengths (lent-at (search))) (kept-start (search)) _ blank) (c .read-headers .ensures blank (the tie.After-start (search) .start .ensures))
 
-kept-headers : (c : tie.After-read-headers) → length (c .read-headers .last .1 .1 .0) ≡ length (c .before .before .before .before .before .before .before .before .before .before .before .before .before .before .before .before .args .head .now)
-kept-headers c = c .read-headers .kept .1 .1 .0 ∙ kept-start (c .before .before .before .before .before .before)
+kept-headers : (c : tie.After-read-headers) → length (c .read-headers .last .1 .1 .0) ≡ length (the tie.Start (search) .args .head .now)
+kept-headers c = c .read-headers .kept .1 .1 .0 ∙ kept-start (search)
 
-headers-are : (c : tie.Else3) → (m : Message) × (each (readHeaderLine readHeader (lengths (lent-at (c .before .before .before .before .before .before .before .before .before .before .before .before .before .before .before .before .before .before .before .before .before)))) (lines (parts-at (c .before .before .before .before .before .before .before .before .before .before .before .before .before .before .before .before .before .before .before .before .before) .headers)) blank ≡ accepted m)
-headers-are c = zero-accepted _ _ (headers-read (c .before .before .before .before .before) .answered) (c .if3 .left)
+abbrev start-before-read-headers : tie.After-read-headers → tie.Start
+start-before-read-headers p = search
+
+headers-are : (c : tie.Else3) → (m : Message) × (each (readHeaderLine readHeader (lengths (lent-at (start-before-read-headers (search))))) (lines (parts-at (start-before-read-headers (search)) .headers)) blank ≡ accepted m)
+headers-are c = zero-accepted _ _ (headers-read (search) .answered) (c .if3 .left)
 
 -- the content headers in the same way
 contents-read : (c : tie.After-read-contents)
-    → LinesRead (headLent (c .read-contents .result .message) (c .read-contents .last .1 .1 .0)) (numbersOf (c .read-contents .result)) (each (readContentLine (lengths (lent-at (c .before .before .before .before .before .before .before .before .before .before .before .before .before .before .before .before .before .before .before .before .before .before .before .before)))) (lines (parts-at (c .before .before .before .before .before .before .before .before .before .before .before .before .before .before .before .before .before .before .before .before .before .before .before .before) .contents)) (headers-are (c .before .before .before) .0))
+    → LinesRead (headLent (c .read-contents .result .message) (c .read-contents .last .1 .1 .0)) (numbersOf (c .read-contents .result)) (each (readContentLine (lengths (lent-at (start-before-read-headers (search))))) (lines (parts-at (start-before-read-headers (search)) .contents)) (headers-are (search) .0))
 unfolding lengths
 contents-read c =
-    let h = headers-are (c .before .before .before) in
-    subst (LinesRead _ _) (contents-same _ (lengths (lent-at (c .before .before .before .before .before .before .before .before .before .before .before .before .before .before .before .before .before .before .before .before .before .before .before .before))) (kept-headers (c .before .before .before .before .before .before .before .before)) _ (h .0)) (c .read-contents .ensures (h .0) (headers-read (c .before .before .before .before .before .before .before .before) .held (h .0) (h .1)))
+    let h = headers-are (search) in
+    subst (LinesRead _ _) (contents-same _ (lengths (lent-at (start-before-read-headers (search)))) (kept-headers (search)) _ (h .0)) (c .read-contents .ensures (h .0) (headers-read (search) .held (h .0) (h .1)))
 
-kept-contents : (c : tie.After-read-contents) → length (c .read-contents .last .1 .1 .0) ≡ length (c .before .before .before .before .before .before .before .before .before .before .before .before .before .before .before .before .before .before .before .before .before .before .before .before .args .head .now)
-kept-contents c = c .read-contents .kept .1 .1 .0 ∙ kept-headers (c .before .before .before .before .before .before .before .before)
+kept-contents : (c : tie.After-read-contents) → length (c .read-contents .last .1 .1 .0) ≡ length (start-before-read-headers (search) .args .head .now)
+kept-contents c = c .read-contents .kept .1 .1 .0 ∙ kept-headers (search)
 
-contents-are : (c : tie.Else4) → (m : Message) × (each (readContentLine (lengths (lent-at (c .before .before .before .before .before .before .before .before .before .before .before .before .before .before .before .before .before .before .before .before .before .before .before .before .before .before .before .before)))) (lines (parts-at (c .before .before .before .before .before .before .before .before .before .before .before .before .before .before .before .before .before .before .before .before .before .before .before .before .before .before .before .before) .contents)) (headers-are (c .before .before .before .before .before .before .before) .0) ≡ accepted m)
-contents-are c = zero-accepted _ _ (contents-read (c .before .before .before .before) .answered) (c .if4 .left)
+contents-are : (c : tie.Else4) → (m : Message) × (each (readContentLine (lengths (lent-at (start-before-read-headers (search))))) (lines (parts-at (start-before-read-headers (search)) .contents)) (headers-are (search) .0) ≡ accepted m)
+contents-are c = zero-accepted _ _ (contents-read (search) .answered) (c .if4 .left)
 
 slice-aggregate-says : tie.Need-slice-aggregate-says
 slice-aggregate-says c =
-    let h = places (c .before .before .before .before) in
+    let h = places (search) in
     simp length-take (omega arith)
-
-slice-aggregate-says-2 : tie.Need-slice-aggregate-says-2
-slice-aggregate-says-2 c = search needs
-
-says-requires : tie.Need-says-requires
-says-requires c κs = search needs
-
-nothing-requires : tie.Need-nothing-requires
-nothing-requires c κs = search needs
 
 returns : tie.Need-returns
 unfolding saysCpim
 returns c =
-    let start = c .before .before .before .before .before .before .before .before in
-    no-cpim (text-at start) (parts-at start) (parts-are start) (lent-at start) (bothLent (c .nothing .result .message) (start .args .head .now) (start .args .body .now)) (numbersOf (c .nothing .result)) (ap numbersOf (c .nothing .ensures)) (sym (c .before .before .says .ensures) ∙ not-true _ (c .before .if1 .taken))
-
-nothing-requires-2 : tie.Need-nothing-requires-2
-nothing-requires-2 c κs = search needs
+    let start : tie.Start = search in
+    no-cpim (text-at start) (parts-at start) (parts-are start) (lent-at start) (bothLent (c .nothing .result .message) (start .args .head .now) (start .args .body .now)) (numbersOf (c .nothing .result)) (ap numbersOf (c .nothing .ensures)) (sym (the tie.After-says (search) .says .ensures) ∙ not-true _ (c .before .if1 .taken))
 
 returns-2 : tie.Need-returns-2
 returns-2 c =
-    let start = c .before .before .before .before .before .before .before .before .before in
-    no-room (text-at start) (parts-at start) (parts-are start) (lent-at start) (bothLent (c .nothing2 .result .message) (start .args .head .now) (start .args .body .now)) (numbersOf (c .nothing2 .result)) (said (c .before .before)) (ap numbersOf (c .nothing2 .ensures)) (omega arith)
+    let start : tie.Start = search in
+    no-room (text-at start) (parts-at start) (parts-are start) (lent-at start) (bothLent (c .nothing2 .result .message) (start .args .head .now) (start .args .body .now)) (numbersOf (c .nothing2 .result)) (said (search)) (ap numbersOf (c .nothing2 .ensures)) (omega arith)
 
 start-requires : tie.Need-start-requires
 start-requires c κs = omega arith
 
 sub-read-headers : tie.Need-sub-read-headers
 sub-read-headers c =
-    let h = places (c .before .before .before .before .before .before .before .before .before .before .before .before) in
+    let h = places (search) in
     omega (arith, h .second)
 
 part-read-headers-start : tie.Need-part-read-headers-start
 part-read-headers-start c =
-    let h = places (c .before .before .before .before .before .before .before .before .before .before .before .before) in
+    let h = places (search) in
     omega (arith, h .second)
 
 part-read-headers-end : tie.Need-part-read-headers-end
 part-read-headers-end c =
-    let h = places (c .before .before .before .before .before .before .before .before .before .before .before .before) in
+    let h = places (search) in
     omega (arith, h .second, h .third)
-
-slice-aggregate-read-headers : tie.Need-slice-aggregate-read-headers
-slice-aggregate-read-headers c = search needs
 
 read-headers-requires : tie.Need-read-headers-requires
 read-headers-requires c κs =
-    let start = c .before .before .before .before .before .before .before .before .before .before .before .before .before .before .before in
-    (holds-held _ blank (c .before .before .before .before .before .start .ensures), (texts-at start .0, omega arith))
+    let start : tie.Start = search in
+    (holds-held _ blank (the tie.After-start (search) .start .ensures), (texts-at start .0, omega arith))
 
 same-length : tie.Need-same-length
-same-length c = kept-headers (c .before .before .before .before .before)
+same-length c = kept-headers (search)
 
 returns-3 : tie.Need-returns-3
 returns-3 c =
-    let start = c .before .before .before .before .before .before .before .before .before .before .before .before .before .before .before .before .before .before .before .before .before in
-    headers-stop (text-at start) (parts-at start) (parts-are start) (lent-at start) _ _ (said (c .before .before .before .before .before .before .before .before .before .before .before .before .before .before)) (omega (arith, c .before .before .before .before .before .before .before .before .before .before .before .before .before .if2)) (headers-read (c .before .before .before .before .before) .answered) (c .if3 .taken)
+    let start = start-before-read-headers (search) in
+    headers-stop (text-at start) (parts-at start) (parts-are start) (lent-at start) _ _ (said (search)) (omega (arith, the tie.Else2 (search) .if2)) (headers-read (search) .answered) (c .if3 .taken)
 
 sub-read-contents : tie.Need-sub-read-contents
 sub-read-contents c =
-    let h = places (c .before .before .before .before .before .before .before .before .before .before .before .before .before .before .before .before .before .before .before .before .before) in
+    let h = places (start-before-read-headers (search)) in
     omega (arith, h .third)
 
 part-read-contents-start : tie.Need-part-read-contents-start
 part-read-contents-start c =
-    let h = places (c .before .before .before .before .before .before .before .before .before .before .before .before .before .before .before .before .before .before .before .before .before) in
+    let h = places (start-before-read-headers (search)) in
     omega (arith, h .third)
 
 part-read-contents-end : tie.Need-part-read-contents-end
 part-read-contents-end c =
-    let h = places (c .before .before .before .before .before .before .before .before .before .before .before .before .before .before .before .before .before .before .before .before .before) in
+    let h = places (start-before-read-headers (search)) in
     omega (arith, h .third)
 
 read-contents-requires : tie.Need-read-contents-requires
 read-contents-requires c κs =
-    let start = c .before .before .before .before .before .before .before .before .before .before .before .before .before .before .before .before .before .before .before .before .before .before .before in
-    let h = headers-are (c .before .before) in
-    (holds-held _ (h .0) (headers-read (c .before .before .before .before .before .before .before) .held (h .0) (h .1)), texts-at start .1)
+    let start = start-before-read-headers (search) in
+    let h = headers-are (search) in
+    (holds-held _ (h .0) (headers-read (search) .held (h .0) (h .1)), texts-at start .1)
 
 same-length-2 : tie.Need-same-length-2
-same-length-2 c = kept-contents (c .before .before .before .before)
+same-length-2 c = kept-contents (search)
+
+abbrev else1-before-read-headers : tie.After-read-headers → tie.Else1
+else1-before-read-headers p = search
+
+abbrev else2-before-read-headers : tie.After-read-headers → tie.Else2
+else2-before-read-headers p = search
 
 returns-4 : tie.Need-returns-4
 returns-4 c =
-    let start = c .before .before .before .before .before .before .before .before .before .before .before .before .before .before .before .before .before .before .before .before .before .before .before .before .before .before .before .before in
-    let h = headers-are (c .before .before .before .before .before .before .before) in
-    contents-stop (text-at start) (parts-at start) (parts-are start) (lent-at start) _ _ (said (c .before .before .before .before .before .before .before .before .before .before .before .before .before .before .before .before .before .before .before .before .before)) (omega (arith, c .before .before .before .before .before .before .before .before .before .before .before .before .before .before .before .before .before .before .before .before .if2)) (h .0) (h .1) (contents-read (c .before .before .before .before) .answered) (c .if4 .taken)
+    let start = start-before-read-headers (search) in
+    let h = headers-are (search) in
+    contents-stop (text-at start) (parts-at start) (parts-are start) (lent-at start) _ _ (said (else1-before-read-headers (search))) (omega (arith, else2-before-read-headers (search) .if2)) (h .0) (h .1) (contents-read (search) .answered) (c .if4 .taken)
 
 put-body-requires : tie.Need-put-body-requires
-put-body-requires c κs = (places (c .before .before .before .before .before .before .before .before .before .before .before .before .before .before .before .before .before .before .before .before .before .before .before .before .before .before .before .before .before) .within, c .before .before .before .before .before .before .before .before .before .before .before .before .before .before .before .before .before .before .before .before .before .before .before .before .before .before .before .before .before .pre .short)
+put-body-requires c κs = (places (start-before-read-headers (search)) .within, start-before-read-headers (search) .pre .short)
 
 same-length-3 : tie.Need-same-length-3
-same-length-3 c = kept-contents (c .before .before .before .before .before .before .before .before)
+same-length-3 c = kept-contents (search)
 
-same-length-4 : tie.Need-same-length-4
-same-length-4 c = search needs
+abbrev else1-before-put-body : tie.After-put-body → tie.Else1
+else1-before-put-body p = else1-before-read-headers (search)
+
+abbrev else2-before-put-body : tie.After-put-body → tie.Else2
+else2-before-put-body p = else2-before-read-headers (search)
 
 returns-5 : tie.Need-returns-5
 returns-5 c =
-    let start = c .before .before .before .before .before .before .before .before .before .before .before .before .before .before .before .before .before .before .before .before .before .before .before .before .before .before .before .before .before .before .before .before in
-    let h = headers-are (c .before .before .before .before .before .before .before .before .before .before .before) in
-    let k = contents-are (c .before .before .before .before) in
-    let read = contents-read (c .before .before .before .before .before .before .before .before) in
-    body-decides (text-at start) (parts-at start) (parts-are start) (lent-at start) _ _ (said (c .before .before .before .before .before .before .before .before .before .before .before .before .before .before .before .before .before .before .before .before .before .before .before .before .before)) (omega (arith, c .before .before .before .before .before .before .before .before .before .before .before .before .before .before .before .before .before .before .before .before .before .before .before .before .if2)) (h .0) (h .1) (k .0) (k .1)
-    (by-same _ (c .before .before .before .before .before .before .before .before .read-contents .last .1 .1 .0) (start .args .head .now) (start .args .body .now) _ _ _ (k .0) (kept-contents (c .before .before .before .before .before .before .before .before)) (c .before .before .put-body .ensures (c .before .before .before .before .before .before .before .before .read-contents .last .1 .1 .0) (k .0) (read .held (k .0) (k .1))))
+    let start = start-before-read-headers (search) in
+    let h = headers-are (search) in
+    let k = contents-are (search) in
+    let read = contents-read (search) in
+    body-decides (text-at start) (parts-at start) (parts-are start) (lent-at start) _ _ (said (else1-before-put-body (search))) (omega (arith, else2-before-put-body (search) .if2)) (h .0) (h .1) (k .0) (k .1)
+    (by-same _ (the tie.After-read-contents (search) .read-contents .last .1 .1 .0) (start .args .head .now) (start .args .body .now) _ _ _ (k .0) (kept-contents (search)) (the tie.After-put-body (search) .put-body .ensures (the tie.After-read-contents (search) .read-contents .last .1 .1 .0) (k .0) (read .held (k .0) (k .1))))
 
 pub read-parts-spec : {M : Type 1} → statement M
 read-parts-spec =
     tie.close
-    (tie.spec
-    slice-aggregate-says
-    slice-aggregate-says-2
-    says-requires
-    nothing-requires
-    returns
-    nothing-requires-2
-    returns-2
-    start-requires
-    sub-read-headers
-    part-read-headers-start
-    part-read-headers-end
-    slice-aggregate-read-headers
-    read-headers-requires
-    same-length
-    returns-3
-    sub-read-contents
-    part-read-contents-start
-    part-read-contents-end
-    read-contents-requires
-    same-length-2
-    returns-4
-    put-body-requires
-    same-length-3
-    same-length-4
-    returns-5)
+    (tie.spec slice-aggregate-says (λ c. search needs) (λ c κs. search needs) (λ c κs. search needs) returns (λ c κs. search needs) returns-2
+    start-requires sub-read-headers part-read-headers-start part-read-headers-end (λ c. search needs) read-headers-requires same-length returns-3
+    sub-read-contents part-read-contents-start part-read-contents-end read-contents-requires same-length-2 returns-4 put-body-requires same-length-3
+    (λ c. search needs) returns-5)

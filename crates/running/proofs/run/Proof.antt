@@ -8,6 +8,7 @@ use lib.ListN.{length, drop}
 use Rattle.format.proofs.Messages.Runs.{run-held}
 use Rattle.script.specs.Script.{state, callsIn}
 use Rattle.script.proofs.Calls.{calls-stop, calls-next}
+use Rattle.format.proofs.Typed.{the}
 use Rattle.running.proofs.Looping.{Leads, leads-end, leads-on}
 use Rattle.running.proofs.run.Statement.{statement}
 use Rattle.running.proofs.run.Tie as tie
@@ -26,42 +27,42 @@ call-end-requires : tie.Need-call-end-requires Inv-loop μ-loop
 call-end-requires c κs = c .loop .inv .0
 
 same-length : tie.Need-same-length Inv-loop μ-loop
-same-length c = c .before .before .loop .inv .1
+same-length c = the (tie.At-loop Inv-loop μ-loop) (search) .loop .inv .1
 
 same-length-2 : tie.Need-same-length-2 Inv-loop μ-loop
-same-length-2 c = c .before .before .loop .inv .2
+same-length-2 c = the (tie.At-loop Inv-loop μ-loop) (search) .loop .inv .2
 
 returns : tie.Need-returns Inv-loop μ-loop
 returns c =
-    let a = c .before .before in
-    let start = a .before .before .before .before in
+    let a : tie.At-loop Inv-loop μ-loop = search in
+    let start : tie.Start Inv-loop μ-loop = search in
     let s = start .args .script .now in
     let run = leads-end _ _ _ _ (a .loop .inv .3) (calls-stop s (a .loop .at) _ (c .before .call-end .ensures) (c .if1 .taken)) in
     (run, λ k h. run-held _ _ k _ h run)
 
 run-call-requires : tie.Need-run-call-requires Inv-loop μ-loop
 run-call-requires c κs =
-    let a = c .before .before .before .before in
-    let start = a .before .before .before .before in
+    let a : tie.At-loop Inv-loop μ-loop = search in
+    let start : tie.Start Inv-loop μ-loop = search in
     let s = start .args .script .now in
-    let n = calls-next s (a .loop .at) _ (c .before .before .before .call-end .ensures) (c .before .before .if1 .left) in
+    let n = calls-next s (a .loop .at) _ (the (tie.After-call-end Inv-loop μ-loop) (search) .call-end .ensures) (the (tie.Else1 Inv-loop μ-loop) (search) .if1 .left) in
     (n .within, n .whole)
 
 loop-less : tie.Need-loop-less Inv-loop μ-loop
 loop-less c =
-    let a = c .before .before .before .before .before .before .before .before .before in
-    let start = a .before .before .before .before in
+    let a : tie.At-loop Inv-loop μ-loop = search in
+    let start : tie.Start Inv-loop μ-loop = search in
     let s = start .args .script .now in
-    let n = calls-next s (a .loop .at) _ (c .before .before .before .before .before .before .before .before .call-end .ensures) (c .before .before .before .before .before .before .before .if1 .left) in
+    let n = calls-next s (a .loop .at) _ (the (tie.After-call-end Inv-loop μ-loop) (search) .call-end .ensures) (the (tie.Else1 Inv-loop μ-loop) (search) .if1 .left) in
     omega (arith, n .place, n .later)
 
 loop-again : tie.Need-loop-again Inv-loop μ-loop
 loop-again c =
-    let a = c .before .before .before .before .before .before .before .before .before in
-    let start = a .before .before .before .before in
+    let a : tie.At-loop Inv-loop μ-loop = search in
+    let start : tie.Start Inv-loop μ-loop = search in
     let s = start .args .script .now in
-    let n = calls-next s (a .loop .at) _ (c .before .before .before .before .before .before .before .before .call-end .ensures) (c .before .before .before .before .before .before .before .if1 .left) in
-    let called = c .before .before .before .before .run-call in (
+    let n = calls-next s (a .loop .at) _ (the (tie.After-call-end Inv-loop μ-loop) (search) .call-end .ensures) (the (tie.Else1 Inv-loop μ-loop) (search) .if1 .left) in
+    let called = the (tie.After-run-call Inv-loop μ-loop) (search) .run-call in (
       n .place,
       called .kept .1 .1 .1 .0 ∙ a .loop .inv .1,
       called .kept .1 .1 .1 .1 .0 ∙ a .loop .inv .2,
@@ -71,14 +72,4 @@ loop-again c =
 pub run-spec : {M : Type 1} → statement M
 run-spec =
     tie.close
-    (tie.spec
-    Inv-loop
-    μ-loop
-    loop-holds
-    call-end-requires
-    same-length
-    same-length-2
-    returns
-    run-call-requires
-    loop-less
-    loop-again)
+    (tie.spec Inv-loop μ-loop loop-holds call-end-requires same-length same-length-2 returns run-call-requires loop-less loop-again)

@@ -8,41 +8,35 @@ use Rattle.script.proofs.argument_at.Tie as tie
 
 add-from : tie.Need-add-from
 add-from c =
-    let start = c .before in
+    let start : tie.Start = search in
     let s = start .args .s .now in
     let at = start .args .at in
     omega (arith, whole-within s at (start .pre))
 
 number-at-requires : tie.Need-number-at-requires
 number-at-requires c κs =
-    let start = c .before in
+    let start : tie.Start = search in
     let s = start .args .s .now in
     let at = start .args .at in
     omega (arith, whole-within s at (start .pre))
 
 add-to : tie.Need-add-to
 add-to c =
-    let start = c .before .before in
+    let start : tie.Start = search in
     let s = start .args .s .now in
     let at = start .args .at in
     omega (arith, whole-within s at (start .pre), c .number-at .ensures .0)
 
-sub-result : tie.Need-sub-result
-sub-result c = search needs
-
-part-result-start : tie.Need-part-result-start
-part-result-start c = search needs
-
 part-result-end : tie.Need-part-result-end
 part-result-end c =
-    let start = c .before .before in
+    let start : tie.Start = search in
     let s = start .args .s .now in
     let at = start .args .at in
     omega (arith, whole-within s at (start .pre), c .number-at .ensures .0)
 
 returns : tie.Need-returns
 returns c =
-    let start = c .before .before .before in
+    let start : tie.Start = search in
     let s = start .args .s .now in
     let at = start .args .at in
     argument-part s at (c .before .number-at .result) (c .before .number-at .ensures .0)
@@ -50,11 +44,4 @@ returns c =
 pub argument-at-spec : {M : Type 1} → statement M
 argument-at-spec =
     tie.close
-    (tie.spec
-    add-from
-    number-at-requires
-    add-to
-    sub-result
-    part-result-start
-    part-result-end
-    returns)
+    (tie.spec add-from number-at-requires add-to (λ c. search needs) (λ c. search needs) part-result-end returns)

@@ -6,20 +6,15 @@ use lib.ListN.{length}
 use borrow.Author.Needs.{needs}
 use lib.Dec.{ltb}
 use Rattle.format.specs.Bytes.{CRLF}
+use Rattle.format.proofs.Typed.{the}
 use Rattle.sections.proofs.Found.{occurs-place}
 use Rattle.sections.proofs.crlf_lines.Statement.{statement}
 use Rattle.sections.proofs.crlf_lines.Tie as tie
 
-slice-aggregate-find : tie.Need-slice-aggregate-find
-slice-aggregate-find c = search needs
-
-find-requires : tie.Need-find-requires
-find-requires c κs = search needs
-
 returns : tie.Need-returns
 returns c =
-    let s = c .before .before .before .args .section .now in
+    let s = the tie.Start (search) .args .section .now in
     ap (λ (n : ℕ). ltb n (length s)) (c .find .ensures) ∙ sym (occurs-place CRLF s (omega arith))
 
 pub crlf-lines-spec : {M : Type 1} → statement M
-crlf-lines-spec = tie.close (tie.spec slice-aggregate-find find-requires returns)
+crlf-lines-spec = tie.close (tie.spec (λ c. search needs) (λ c κs. search needs) returns)

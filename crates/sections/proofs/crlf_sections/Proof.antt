@@ -6,20 +6,15 @@ use lib.ListN.{length}
 use borrow.Author.Needs.{needs}
 use lib.Dec.{ltb}
 use Rattle.format.specs.Bytes.{CRLFCRLF}
+use Rattle.format.proofs.Typed.{the}
 use Rattle.sections.proofs.Found.{occurs-place}
 use Rattle.sections.proofs.crlf_sections.Statement.{statement}
 use Rattle.sections.proofs.crlf_sections.Tie as tie
 
-slice-aggregate-find : tie.Need-slice-aggregate-find
-slice-aggregate-find c = search needs
-
-find-requires : tie.Need-find-requires
-find-requires c κs = search needs
-
 returns : tie.Need-returns
 returns c =
-    let t = c .before .before .before .args .text .now in
+    let t = the tie.Start (search) .args .text .now in
     ap (λ (n : ℕ). ltb n (length t)) (c .find .ensures) ∙ sym (occurs-place CRLFCRLF t (omega arith))
 
 pub crlf-sections-spec : {M : Type 1} → statement M
-crlf-sections-spec = tie.close (tie.spec slice-aggregate-find find-requires returns)
+crlf-sections-spec = tie.close (tie.spec (λ c. search needs) (λ c κs. search needs) returns)

@@ -2,31 +2,29 @@
 use mathlib.Core.Path.{sym, _∙_}
 use native.Mathlib.Omega.{arith}
 use borrow.Author.Needs.{needs}
+use Rattle.format.proofs.Typed.{the}
 use Rattle.sections.proofs.Found.{some-fits}
 use Rattle.sections.proofs.Cutting.{cut-none, cut-some}
 use Rattle.sections.proofs.cut.Statement.{statement}
 use Rattle.sections.proofs.cut.Tie as tie
 
-find-requires : tie.Need-find-requires
-find-requires c κs = search needs
-
 returns : tie.Need-returns
 returns c =
-    let t = c .before .before .before .before .args .text .now in
-    let p = c .before .before .before .before .args .pattern .now in
+    let t = the tie.Start (search) .args .text .now in
+    let p = the tie.Start (search) .args .pattern .now in
     rw (c .before .find .ensures) (sym (cut-none p t (omega arith) (omega arith)))
 
 add-t6 : tie.Need-add-t6
 add-t6 c =
-    let t = c .before .before .before .before .args .text .now in
-    let p = c .before .before .before .before .args .pattern .now in
+    let t = the tie.Start (search) .args .text .now in
+    let p = the tie.Start (search) .args .pattern .now in
     record { fits = omega (arith, some-fits p t (omega arith) (λ e. c .if1 .left (c .before .find .ensures ∙ e))) }
 
 returns-2 : tie.Need-returns-2
 returns-2 c =
-    let t = c .before .before .before .before .args .text .now in
-    let p = c .before .before .before .before .args .pattern .now in
+    let t = the tie.Start (search) .args .text .now in
+    let p = the tie.Start (search) .args .pattern .now in
     rw (c .before .find .ensures) (sym (cut-some p t (omega arith) (λ e. c .if1 .left (c .before .find .ensures ∙ e))))
 
 pub cut-spec : {M : Type 1} → statement M
-cut-spec = tie.close (tie.spec find-requires returns add-t6 returns-2)
+cut-spec = tie.close (tie.spec (λ c κs. search needs) returns add-t6 returns-2)

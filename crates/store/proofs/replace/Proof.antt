@@ -6,30 +6,16 @@ use lib.ListN.{length}
 use borrow.Author.Needs.{needs}
 use borrow.Author.Tests.{lt-ltb, le-ltb}
 use Rattle.format.proofs.Answers.{room-short, room-enough, passed-numbers}
+use Rattle.format.proofs.Typed.{the}
 use Rattle.store.specs.Notations.{valueRead}
 use Rattle.store.specs.Spliced.{entrySize}
 use Rattle.store.proofs.Splicing.{if-true, if-false}
 use Rattle.store.proofs.replace.Statement.{statement}
 use Rattle.store.proofs.replace.Tie as tie
 
-sub-need : tie.Need-sub-need
-sub-need c = search needs
-
-add-need : tie.Need-add-need
-add-need c = search needs
-
-add-need-2 : tie.Need-add-need-2
-add-need-2 c = search needs
-
-add-need-3 : tie.Need-add-need-3
-add-need-3 c = search needs
-
-add-need-4 : tie.Need-add-need-4
-add-need-4 c = search needs
-
 returns : tie.Need-returns
 returns c =
-    let start = c .before .before .before .before .before in
+    let start : tie.Start = search in
     let args = start .args in
     let store = length (args .store .now) in
     let need = args .used - args .old + entrySize (args .name .now) (valueRead (args .notation) (args .text .now)) (args .tail .now) in
@@ -38,31 +24,20 @@ returns c =
 
 splice-requires : tie.Need-splice-requires
 splice-requires c κs =
-    let start = c .before .before .before .before .before .before in
+    let start : tie.Start = search in
     (start .pre .0, (start .pre .1 .0, (omega (arith, start .pre .1 .0 .1), start .pre .1 .1)))
-
-same-length : tie.Need-same-length
-same-length c = search needs
 
 returns-2 : tie.Need-returns-2
 returns-2 c =
-    let start = c .before .before .before .before .before .before .before .before .before in
+    let start : tie.Start = search in
     let args = start .args in
     let store = length (args .store .now) in
     let need = args .used - args .old + entrySize (args .name .now) (valueRead (args .notation) (args .text .now)) (args .tail .now) in
     let fits : need ≤ store = omega (arith, start .pre .1 .0 .1) in
-    (passed-numbers _ (room-enough store need fits), c .before .before .splice .ensures ∙ if-false _ _ _ (le-ltb store need fits))
+    (passed-numbers _ (room-enough store need fits), the tie.After-splice (search) .splice .ensures ∙ if-false _ _ _ (le-ltb store need fits))
 
 pub replace-spec : {M : Type 1} → statement M
 replace-spec =
     tie.close
-    (tie.spec
-    sub-need
-    add-need
-    add-need-2
-    add-need-3
-    add-need-4
-    returns
-    splice-requires
-    same-length
-    returns-2)
+    (tie.spec (λ c. search needs) (λ c. search needs) (λ c. search needs) (λ c. search needs) (λ c. search needs) returns splice-requires
+    (λ c. search needs) returns-2)

@@ -7,6 +7,7 @@ use lib.ListN.{length, take, drop, length-take}
 use borrow.Author.Needs.{needs}
 use Rattle.format.specs.Reading.{Parts}
 use Rattle.sections.specs.declared.Places.the-variants.{Four}
+use Rattle.format.proofs.Typed.{the}
 use Rattle.text_parts.specs.Judging.{Stands, Judged, bodyBehind}
 use Rattle.format.proofs.Lists.{rest-is, clash}
 use Rattle.sections.proofs.Joining.{body-crlf}
@@ -17,78 +18,60 @@ use Rattle.text_parts.proofs.body_part.Statement.{statement}
 use Rattle.text_parts.proofs.body_part.Tie as tie
 
 -- what was judged
-stands-at : (c : tie.After-known-told) → Stands (c .before .before .before .before .before .before .args .text .now) (c .before .judgement .given .0 .0) (Four (c .before .judgement .given .0 .1 .0) (c .before .judgement .given .0 .1 .1 .0) (c .before .judgement .given .0 .1 .1 .1 .0) (c .before .judgement .given .0 .1 .1 .1 .1 .0) (c .before .judgement .given .0 .1 .1 .1 .1 .1 .0) (c .before .judgement .given .0 .1 .1 .1 .1 .1 .1 .0))
-stands-at c = subst (Judged (c .before .before .before .before .before .before .args .text .now)) (c .before .judgement .given .1) (c .before .before .before .judge .ensures)
+stands-at : (c : tie.After-known-told) → Stands (the tie.Start (search) .args .text .now) (c .before .judgement .given .0 .0) (Four (c .before .judgement .given .0 .1 .0) (c .before .judgement .given .0 .1 .1 .0) (c .before .judgement .given .0 .1 .1 .1 .0) (c .before .judgement .given .0 .1 .1 .1 .1 .0) (c .before .judgement .given .0 .1 .1 .1 .1 .1 .0) (c .before .judgement .given .0 .1 .1 .1 .1 .1 .1 .0))
+stands-at c = subst (Judged (the tie.Start (search) .args .text .now)) (c .before .judgement .given .1) (the tie.After-judge (search) .judge .ensures)
 
 -- the parts, and where the rest begins
 abbrev parts-at : tie.After-known-told → Parts
 parts-at c =
-    let t = c .before .before .before .before .before .before .args .text .now in
+    let t = the tie.Start (search) .args .text .now in
     let g = c .before .judgement .given .0 in
     record { mime = take (g .1 .0) t; headers = take (g .1 .1 .1 .0 - g .1 .1 .0) (drop (g .1 .1 .0) t); contents = take (g .1 .1 .1 .1 .1 .0 - g .1 .1 .1 .1 .0) (drop (g .1 .1 .1 .1 .0) t); body = bodyBehind (g .0) (drop (g .1 .1 .1 .1 .1 .1 .0) t) }
 
-rest-within : (c : tie.After-known-told) → c .before .judgement .given .0 .1 .1 .1 .1 .1 .1 .0 ≤ length (c .before .before .before .before .before .before .args .text .now)
+rest-within : (c : tie.After-known-told) → c .before .judgement .given .0 .1 .1 .1 .1 .1 .1 .0 ≤ length (the tie.Start (search) .args .text .now)
 rest-within c = three _ _ _ _ _ _ _ _ (stands-at c) .within
-
-judge-requires : tie.Need-judge-requires
-judge-requires c κs = search needs
-
-enum-known-judgement : tie.Need-enum-known-judgement
-enum-known-judgement c = search needs
 
 enum-told : tie.Need-enum-told
 enum-told c = search needs
 
-slice-aggregate-result : tie.Need-slice-aggregate-result
-slice-aggregate-result c = search needs
-
 returns : tie.Need-returns
 returns c =
-    let args = c .before .before .before .before .before .before .args in
-    (part-none (args .text .now) _ (subst (Judged (args .text .now)) (c .before .enum-told .given .1) (c .before .before .before .judge .ensures)) (args .buffer .now) (args .len), λ _. empty-behind (args .text .now))
+    let args = the tie.Start (search) .args in
+    (part-none (args .text .now) _ (subst (Judged (args .text .now)) (c .before .enum-told .given .1) (the tie.After-judge (search) .judge .ensures)) (args .buffer .now) (args .len), λ _. empty-behind (args .text .now))
 
 body-len-requires : tie.Need-body-len-requires
 body-len-requires c κs = (rest-within c, stands-at c .short)
 
-slice-aggregate-result-2 : tie.Need-slice-aggregate-result-2
-slice-aggregate-result-2 c = search needs
-
 returns-2 : tie.Need-returns-2
 returns-2 c =
-    let at = c .before .before .before in
-    let args = at .before .before .before .before .before .before .args in
-    (part-long (args .text .now) (parts-at at) (parts-stand _ _ _ _ _ _ _ _ (stands-at at)) _ (c .before .before .body-len .ensures) (omega arith) (args .buffer .now) (args .len), λ _. empty-behind (args .text .now))
+    let at : tie.After-known-told = search in
+    let args = the tie.Start (search) .args in
+    (part-long (args .text .now) (parts-at at) (parts-stand _ _ _ _ _ _ _ _ (stands-at at)) _ (the tie.After-body-len (search) .body-len .ensures) (omega arith) (args .buffer .now) (args .len), λ _. empty-behind (args .text .now))
 
 sub-result : tie.Need-sub-result
-sub-result c = omega (arith, rest-within (c .before .before .before))
+sub-result c = omega (arith, rest-within (search))
 
 part-result-start : tie.Need-part-result-start
-part-result-start c = omega (arith, rest-within (c .before .before .before))
-
-part-result-end : tie.Need-part-result-end
-part-result-end c = search needs
+part-result-start c = omega (arith, rest-within (search))
 
 returns-3 : tie.Need-returns-3
 returns-3 c =
-    let at = c .before .before .before .before in
-    let args = at .before .before .before .before .before .before .args in
+    let at : tie.After-known-told = search in
+    let args = the tie.Start (search) .args in
     let rest = at .before .judgement .given .0 .1 .1 .1 .1 .1 .1 .0 in
     let inside = sym (stands-at at .separated) ∙ c .before .if2 .taken in (
       rest-is (args .text .now) rest
           ∙ sym (ap (λ (b : Bool). bodyBehind b (drop rest (args .text .now))) (c .before .if2 .taken) ∙ body-crlf (drop rest (args .text .now)))
-          ∙ part-inside (args .text .now) (parts-at at) (parts-stand _ _ _ _ _ _ _ _ (stands-at at)) _ (c .before .before .before .body-len .ensures) (omega arith) inside (args .buffer .now) (args .len),
+          ∙ part-inside (args .text .now) (parts-at at) (parts-stand _ _ _ _ _ _ _ _ (stands-at at)) _ (the tie.After-body-len (search) .body-len .ensures) (omega arith) inside (args .buffer .now) (args .len),
       λ _. rest-behind (args .text .now) rest (rest-within at),
     )
 
-slice-aggregate-result-3 : tie.Need-slice-aggregate-result-3
-slice-aggregate-result-3 c = search needs
-
 returns-4 : tie.Need-returns-4
 returns-4 c =
-    let at = c .before .before .before .before .before in
-    let args = at .before .before .before .before .before .before .args in (
-      part-over (args .text .now) (parts-at at) (parts-stand _ _ _ _ _ _ _ _ (stands-at at)) _ (c .before .before .before .before .body-len .ensures) (omega arith)
-          (sym (stands-at at .separated) ∙ c .before .before .if2 .left) (args .buffer .now) (args .len) (omega arith),
+    let at : tie.After-known-told = search in
+    let args = the tie.Start (search) .args in (
+      part-over (args .text .now) (parts-at at) (parts-stand _ _ _ _ _ _ _ _ (stands-at at)) _ (the tie.After-body-len (search) .body-len .ensures) (omega arith)
+          (sym (stands-at at .separated) ∙ the tie.Else2 (search) .if2 .left) (args .buffer .now) (args .len) (omega arith),
       λ _. empty-behind (args .text .now),
     )
 
@@ -97,30 +80,15 @@ slice-aggregate-result-4 c = simp length-take (omega arith)
 
 returns-5 : tie.Need-returns-5
 returns-5 c =
-    let at = c .before .before .before .before .before in
-    let args = at .before .before .before .before .before .before .args in (
-      part-outside (args .text .now) (parts-at at) (parts-stand _ _ _ _ _ _ _ _ (stands-at at)) _ (c .before .before .before .before .body-len .ensures) (omega arith)
-          (sym (stands-at at .separated) ∙ c .before .before .if2 .left) (args .buffer .now) (args .len) (omega arith),
-      λ i. clash i (sym (stands-at at .separated) ∙ c .before .before .if2 .left),
+    let at : tie.After-known-told = search in
+    let args = the tie.Start (search) .args in (
+      part-outside (args .text .now) (parts-at at) (parts-stand _ _ _ _ _ _ _ _ (stands-at at)) _ (the tie.After-body-len (search) .body-len .ensures) (omega arith)
+          (sym (stands-at at .separated) ∙ the tie.Else2 (search) .if2 .left) (args .buffer .now) (args .len) (omega arith),
+      λ i. clash i (sym (stands-at at .separated) ∙ the tie.Else2 (search) .if2 .left),
     )
 
 pub body-part-spec : {M : Type 1} → statement M
 body-part-spec =
     tie.close
-    (tie.spec
-    judge-requires
-    enum-known-judgement
-    enum-told
-    slice-aggregate-result
-    returns
-    body-len-requires
-    slice-aggregate-result-2
-    returns-2
-    sub-result
-    part-result-start
-    part-result-end
-    returns-3
-    slice-aggregate-result-3
-    returns-4
-    slice-aggregate-result-4
-    returns-5)
+    (tie.spec (λ c κs. search needs) (λ c. search needs) enum-told (λ c. search needs) returns body-len-requires (λ c. search needs) returns-2
+    sub-result part-result-start (λ c. search needs) returns-3 (λ c. search needs) returns-4 slice-aggregate-result-4 returns-5)

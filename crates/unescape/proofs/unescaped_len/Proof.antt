@@ -11,6 +11,7 @@ use Rattle.format.specs.Bytes.{Bytes, upTo}
 use Rattle.format.specs.Characters.{encoding}
 use Rattle.format.specs.Escaping.{escapeAt, inFront, unescape}
 use Rattle.format.proofs.Escaping.Unescape.{behind-nil}
+use Rattle.format.proofs.Typed.{the}
 use Rattle.unescape.specs.Backslash.{escapeOf}
 use Rattle.unescape.specs.Reads.{measured}
 use Rattle.unescape.proofs.Stretches.{stretch-within, read-end, read-refused, read-escape, escape-within, measured-some, stretch-length}
@@ -26,27 +27,15 @@ abbrev μ-loop : tie.MeasureT-loop
 loop-holds : tie.Need-loop-holds Inv-loop μ-loop
 loop-holds c = (omega arith, omega arith, [], sym (behind-nil (unescape (c .before .args .s .now))), refl)
 
-sub-find-byte : tie.Need-sub-find-byte Inv-loop μ-loop
-sub-find-byte c = search needs
-
-part-find-byte-start : tie.Need-part-find-byte-start Inv-loop μ-loop
-part-find-byte-start c = search needs
-
-part-find-byte-end : tie.Need-part-find-byte-end Inv-loop μ-loop
-part-find-byte-end c = search needs
-
-find-byte-requires : tie.Need-find-byte-requires Inv-loop μ-loop
-find-byte-requires c κs = search needs
-
 -- the next backslash
-found : (c : tie.After-find-byte Inv-loop μ-loop) → c .find-byte .result ≡ length (upTo 92 (drop (c .before .before .loop .i) (c .before .before .before .before .args .s .now)))
+found : (c : tie.After-find-byte Inv-loop μ-loop) → c .find-byte .result ≡ length (upTo 92 (drop (the (tie.At-loop Inv-loop μ-loop) (search) .loop .i) (the (tie.Start Inv-loop μ-loop) (search) .args .s .now)))
 found c =
-    let s = c .before .before .before .before .args .s .now in
-    let i = c .before .before .loop .i in
+    let s = the (tie.Start Inv-loop μ-loop) (search) .args .s .now in
+    let i = the (tie.At-loop Inv-loop μ-loop) (search) .loop .i in
     c .find-byte .ensures ∙ ap (λ (l : Bytes). length (upTo 92 l)) (take-all (length s - i) (drop i s) (simp length-drop (omega arith)))
 
-within : (c : tie.After-find-byte Inv-loop μ-loop) → c .before .before .loop .i + c .find-byte .result ≤ length (c .before .before .before .before .args .s .now)
-within c = stretch-within (c .before .before .before .before .args .s .now) (c .before .before .loop .i) (c .find-byte .result) (found c) (omega arith)
+within : (c : tie.After-find-byte Inv-loop μ-loop) → the (tie.At-loop Inv-loop μ-loop) (search) .loop .i + c .find-byte .result ≤ length (the (tie.Start Inv-loop μ-loop) (search) .args .s .now)
+within c = stretch-within (the (tie.Start Inv-loop μ-loop) (search) .args .s .now) (the (tie.At-loop Inv-loop μ-loop) (search) .loop .i) (c .find-byte .result) (found c) (omega arith)
 
 add-n : tie.Need-add-n Inv-loop μ-loop
 add-n c = omega (arith, within c)
@@ -56,74 +45,68 @@ add-end c = omega (arith, within c)
 
 returns : tie.Need-returns Inv-loop μ-loop
 returns c =
-    let at-loop = c .before .before .before in
-    let s = at-loop .before .before .args .s .now in
+    let at-loop : tie.At-loop Inv-loop μ-loop = search in
+    let s = the (tie.Start Inv-loop μ-loop) (search) .args .s .now in
     let l = at-loop .loop in
     let k = c .before .find-byte .result in
     let w = l .inv .2 in
     measured-some (unescape s) (w ++ take k (drop (l .i) s)) (l .n + k)
-    (read-end s (l .i) k (found (c .before)) w (l .inv .3) (omega arith)) (stretch-length s (l .i) k w (within (c .before)) ∙ ap (λ (n : ℕ). n + k) (l .inv .4))
+    (read-end s (l .i) k (found (search)) w (l .inv .3) (omega arith)) (stretch-length s (l .i) k w (within (search)) ∙ ap (λ (n : ℕ). n + k) (l .inv .4))
 
 add-escape-at : tie.Need-add-escape-at Inv-loop μ-loop
-add-escape-at c = omega (arith, within (c .before))
+add-escape-at c = omega (arith, within (search))
 
 escape-at-requires : tie.Need-escape-at-requires Inv-loop μ-loop
-escape-at-requires c κs = omega (arith, within (c .before))
+escape-at-requires c κs = omega (arith, within (search))
 
 enum-told : tie.Need-enum-told Inv-loop μ-loop
 enum-told c = search needs
 
 returns-2 : tie.Need-returns-2 Inv-loop μ-loop
 returns-2 c =
-    let f = c .before .before .before .before in
-    let at-loop = f .before .before in
-    let s = at-loop .before .before .args .s .now in
+    let f : tie.After-find-byte Inv-loop μ-loop = search in
+    let at-loop : tie.At-loop Inv-loop μ-loop = search in
+    let s = the (tie.Start Inv-loop μ-loop) (search) .args .s .now in
     let l = at-loop .loop in
     let k = f .find-byte .result in
-    let r = c .before .before .escape-at in
+    let r = the (tie.After-escape-at Inv-loop μ-loop) (search) .escape-at in
     let q : escapeAt (drop (l .i + k + 1) s) ≡ none = sym (r .ensures .0) ∙ ap escapeOf (c .enum-told .given .1) in
     sym (ap measured (read-refused s (l .i) k (found f) (l .inv .2) (l .inv .3) (omega arith) q))
-
-enum-known-e : tie.Need-enum-known-e Inv-loop μ-loop
-enum-known-e c = search needs
 
 -- the escape behind it
 coded :
     (c : tie.After-e Inv-loop μ-loop)
-    → escapeAt (drop (c .before .before .before .before .before .before .loop .i + c .before .before .before .before .find-byte .result + 1) (c .before .before .before .before .before .before .before .before .args .s .now))
+    → escapeAt (drop (the (tie.At-loop Inv-loop μ-loop) (search) .loop .i + the (tie.After-find-byte Inv-loop μ-loop) (search) .find-byte .result + 1) (the (tie.Start Inv-loop μ-loop) (search) .args .s .now))
     ≡ some (record { stands = encoding (c .e .given .0 .0); takes = c .e .given .0 .1 .0 })
-coded c = sym (c .before .before .escape-at .ensures .0) ∙ ap escapeOf (c .e .given .1)
+coded c = sym (the (tie.After-escape-at Inv-loop μ-loop) (search) .escape-at .ensures .0) ∙ ap escapeOf (c .e .given .1)
 
 ends :
     (c : tie.After-e Inv-loop μ-loop)
-    → (c .before .before .before .before .before .before .loop .i + c .before .before .before .before .find-byte .result + 1 + c .e .given .0 .1 .0
-    ≤ length (c .before .before .before .before .before .before .before .before .args .s .now))
+    → (the (tie.At-loop Inv-loop μ-loop) (search) .loop .i + the (tie.After-find-byte Inv-loop μ-loop) (search) .find-byte .result + 1 + c .e .given .0 .1 .0
+    ≤ length (the (tie.Start Inv-loop μ-loop) (search) .args .s .now))
     × (length (encoding (c .e .given .0 .0)) ≤ 1 + c .e .given .0 .1 .0)
 ends c =
-    let f = c .before .before .before .before in
-    escape-within (f .before .before .before .before .args .s .now) (f .before .before .loop .i + f .find-byte .result + 1) _ (omega (arith, within f)) (coded c)
-
-code-len-requires : tie.Need-code-len-requires Inv-loop μ-loop
-code-len-requires c κs = search needs
+    let f : tie.After-find-byte Inv-loop μ-loop = search in
+    escape-within (the (tie.Start Inv-loop μ-loop) (search) .args .s .now) (the (tie.At-loop Inv-loop μ-loop) (search) .loop .i + f .find-byte .result + 1) _ (omega (arith, within f)) (coded c)
 
 add-n-2 : tie.Need-add-n-2 Inv-loop μ-loop
-add-n-2 c = omega (arith, ends (c .before .before), c .code-len .ensures)
+add-n-2 c = omega (arith, ends (search), c .code-len .ensures)
 
 add-i : tie.Need-add-i Inv-loop μ-loop
-add-i c = omega (arith, ends (c .before .before))
+add-i c = omega (arith, ends (search))
 
 add-i-2 : tie.Need-add-i-2 Inv-loop μ-loop
-add-i-2 c = omega (arith, ends (c .before .before))
+add-i-2 c = omega (arith, ends (search))
 
 loop-less : tie.Need-loop-less Inv-loop μ-loop
-loop-less c = omega (arith, ends (c .before .before))
+loop-less c = omega (arith, ends (search))
 
 loop-again : tie.Need-loop-again Inv-loop μ-loop
 loop-again c =
-    let e = c .before .before in
-    let f = e .before .before .before .before in
-    let s = f .before .before .before .before .args .s .now in
-    let l = f .before .before .loop in
+    let e : tie.After-e Inv-loop μ-loop = search in
+    let f : tie.After-find-byte Inv-loop μ-loop = search in
+    let s = the (tie.Start Inv-loop μ-loop) (search) .args .s .now in
+    let l = the (tie.At-loop Inv-loop μ-loop) (search) .loop in
     let k = f .find-byte .result in
     let w = l .inv .2 in
     let g = e .e .given .0 .0 in
@@ -139,25 +122,5 @@ loop-again c =
 pub unescaped-len-spec : {M : Type 1} → statement M
 unescaped-len-spec =
     tie.close
-    (tie.spec
-    Inv-loop
-    μ-loop
-    loop-holds
-    sub-find-byte
-    part-find-byte-start
-    part-find-byte-end
-    find-byte-requires
-    add-n
-    add-end
-    returns
-    add-escape-at
-    escape-at-requires
-    enum-told
-    returns-2
-    enum-known-e
-    code-len-requires
-    add-n-2
-    add-i
-    add-i-2
-    loop-less
-    loop-again)
+    (tie.spec Inv-loop μ-loop loop-holds (λ c. search needs) (λ c. search needs) (λ c. search needs) (λ c κs. search needs) add-n add-end returns
+    add-escape-at escape-at-requires enum-told returns-2 (λ c. search needs) (λ c κs. search needs) add-n-2 add-i add-i-2 loop-less loop-again)

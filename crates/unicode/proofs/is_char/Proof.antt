@@ -1,18 +1,16 @@
 -- `unicode::is_char` meets its contract. The character that the bytes begin with is all of them, or they are none.
 -- Assumes nothing.
 use borrow.Author.Needs.{needs}
+use Rattle.format.proofs.Typed.{the}
 use Rattle.unicode.proofs.WhiteSpace.{whole-none, whole-tested}
 use Rattle.unicode.proofs.is_char.Statement.{statement}
 use Rattle.unicode.proofs.is_char.Tie as tie
 
-char-len-requires : tie.Need-char-len-requires
-char-len-requires c κs = search needs
-
 returns : tie.Need-returns
-returns c = whole-none (c .before .before .before .args .g .now) (c .before .char-len .result) (c .before .char-len .ensures) (c .if1 .taken)
+returns c = whole-none (the tie.Start (search) .args .g .now) (c .before .char-len .result) (c .before .char-len .ensures) (c .if1 .taken)
 
 returns-2 : tie.Need-returns-2
-returns-2 c = whole-tested (c .before .before .before .args .g .now) (c .before .char-len .result) (c .before .char-len .ensures) (c .if1 .left)
+returns-2 c = whole-tested (the tie.Start (search) .args .g .now) (c .before .char-len .result) (c .before .char-len .ensures) (c .if1 .left)
 
 pub is-char-spec : {M : Type 1} → statement M
-is-char-spec = tie.close (tie.spec char-len-requires returns returns-2)
+is-char-spec = tie.close (tie.spec (λ c κs. search needs) returns returns-2)

@@ -10,6 +10,7 @@ use borrow.Author.Needs.{needs}
 use lib.Dec.{eqb}
 use Rattle.format.specs.Bytes.{any}
 use Rattle.format.specs.Characters.{whiteSpace}
+use Rattle.format.proofs.Typed.{the}
 use Rattle.unicode.proofs.WhiteSpace.{any-hit, any-miss, any-end}
 use Rattle.unicode.proofs.is_listed.Statement.{statement}
 use Rattle.unicode.proofs.is_listed.Tie as tie
@@ -23,45 +24,23 @@ abbrev μ-loop : tie.MeasureT-loop
 loop-holds : tie.Need-loop-holds Inv-loop μ-loop
 loop-holds c = (omega arith, refl)
 
-mul-if1 : tie.Need-mul-if1 Inv-loop μ-loop
-mul-if1 c = search needs
-
-element-copy-out-if1 : tie.Need-element-copy-out-if1 Inv-loop μ-loop
-element-copy-out-if1 c = search needs
-
 returns : tie.Need-returns Inv-loop μ-loop
 returns c =
-    let z = c .before .before .before .before in
-    sym (c .before .before .before .loop .inv .1 ∙ any-hit (z .args .n) whiteSpace (c .before .before .before .loop .i) (omega arith) (c .if1 .taken ∙ ap (λ (xs : List ℕ). getD xs (c .before .before .before .loop .i) 0) (z .pre)))
-
-add-i : tie.Need-add-i Inv-loop μ-loop
-add-i c = search needs
-
-loop-less : tie.Need-loop-less Inv-loop μ-loop
-loop-less c = search needs
+    let z : tie.Start Inv-loop μ-loop = search in
+    sym (the (tie.At-loop Inv-loop μ-loop) (search) .loop .inv .1 ∙ any-hit (z .args .n) whiteSpace (the (tie.At-loop Inv-loop μ-loop) (search) .loop .i) (omega arith) (c .if1 .taken ∙ ap (λ (xs : List ℕ). getD xs (the (tie.At-loop Inv-loop μ-loop) (search) .loop .i) 0) (z .pre)))
 
 loop-again : tie.Need-loop-again Inv-loop μ-loop
 loop-again c =
-    let z = c .before .before .before .before in (
+    let z : tie.Start Inv-loop μ-loop = search in (
       omega arith,
-      c .before .before .before .loop .inv .1
-          ∙ any-miss (z .args .n) whiteSpace (c .before .before .before .loop .i) (omega arith) (λ e. c .if1 .left (e ∙ sym (ap (λ (xs : List ℕ). getD xs (c .before .before .before .loop .i) 0) (z .pre)))),
+      the (tie.At-loop Inv-loop μ-loop) (search) .loop .inv .1
+          ∙ any-miss (z .args .n) whiteSpace (the (tie.At-loop Inv-loop μ-loop) (search) .loop .i) (omega arith) (λ e. c .if1 .left (e ∙ sym (ap (λ (xs : List ℕ). getD xs (the (tie.At-loop Inv-loop μ-loop) (search) .loop .i) 0) (z .pre)))),
     )
 
 returns-2 : tie.Need-returns-2 Inv-loop μ-loop
-returns-2 c = sym (c .before .loop .inv .1 ∙ any-end (c .before .before .args .n) whiteSpace (c .before .loop .i) (omega arith))
+returns-2 c = sym (c .before .loop .inv .1 ∙ any-end (the (tie.Start Inv-loop μ-loop) (search) .args .n) whiteSpace (c .before .loop .i) (omega arith))
 
 pub is-listed-spec : {M : Type 1} → statement M
 is-listed-spec =
     tie.close
-    (tie.spec
-    Inv-loop
-    μ-loop
-    loop-holds
-    mul-if1
-    element-copy-out-if1
-    returns
-    add-i
-    loop-less
-    loop-again
-    returns-2)
+    (tie.spec Inv-loop μ-loop loop-holds (λ c. search needs) (λ c. search needs) returns (λ c. search needs) (λ c. search needs) loop-again returns-2)

@@ -5,17 +5,11 @@ use borrow.Author.Needs.{needs}
 use Rattle.utf8.proofs.block_end.Statement.{statement}
 use Rattle.utf8.proofs.block_end.Tie as tie
 
-sub-if1 : tie.Need-sub-if1
-sub-if1 c = search needs
-
 returns : tie.Need-returns
 returns c = omega arith
-
-add-result : tie.Need-add-result
-add-result c = search needs
 
 returns-2 : tie.Need-returns-2
 returns-2 c = omega arith
 
 pub block-end-spec : {M : Type 1} → statement M
-block-end-spec = tie.close (tie.spec sub-if1 returns add-result returns-2)
+block-end-spec = tie.close (tie.spec (λ c. search needs) returns (λ c. search needs) returns-2)

@@ -7,6 +7,7 @@ use native.Mathlib.Omega.{arith}
 use lib.ListN.{length}
 use borrow.Author.Needs.{needs}
 use Rattle.characters.proofs.Ends.{char-step}
+use Rattle.format.proofs.Typed.{the}
 use Rattle.utf8.specs.Parts.{charsEnd}
 use Rattle.utf8.proofs.Parts.{chars-stop, chars-ill, chars-more}
 use Rattle.utf8.proofs.past_chars.Statement.{statement}
@@ -21,43 +22,31 @@ abbrev μ-loop : tie.MeasureT-loop
 loop-holds : tie.Need-loop-holds Inv-loop μ-loop
 loop-holds c = (omega arith, refl)
 
-char-len-in-requires : tie.Need-char-len-in-requires Inv-loop μ-loop
-char-len-in-requires c κs = search needs
-
 returns : tie.Need-returns Inv-loop μ-loop
 returns c =
-    let a = c .before .before .before .before .before .args in
-    let loop = c .before .before .before .loop in
+    let a = the (tie.Start Inv-loop μ-loop) (search) .args in
+    let loop = the (tie.At-loop Inv-loop μ-loop) (search) .loop in
     sym (loop .inv .1 ∙ chars-ill (a .s .now) (loop .at) (a .stop) (omega arith) (sym (c .before .char-len-in .ensures) ∙ c .if1 .taken))
 
 add-at : tie.Need-add-at Inv-loop μ-loop
-add-at c = omega (arith, char-step (c .before .before .before .before .before .args .s .now) (c .before .before .before .loop .at) (c .before .char-len-in .result) (c .before .char-len-in .ensures) (c .if1 .left) .inside)
+add-at c = omega (arith, char-step (the (tie.Start Inv-loop μ-loop) (search) .args .s .now) (the (tie.At-loop Inv-loop μ-loop) (search) .loop .at) (c .before .char-len-in .result) (c .before .char-len-in .ensures) (c .if1 .left) .inside)
 
 loop-less : tie.Need-loop-less Inv-loop μ-loop
-loop-less c = omega (arith, char-step (c .before .before .before .before .before .args .s .now) (c .before .before .before .loop .at) (c .before .char-len-in .result) (c .before .char-len-in .ensures) (c .if1 .left) .inside)
+loop-less c = omega (arith, char-step (the (tie.Start Inv-loop μ-loop) (search) .args .s .now) (the (tie.At-loop Inv-loop μ-loop) (search) .loop .at) (c .before .char-len-in .result) (c .before .char-len-in .ensures) (c .if1 .left) .inside)
 
 loop-again : tie.Need-loop-again Inv-loop μ-loop
 loop-again c =
-    let a = c .before .before .before .before .before .args in
-    let loop = c .before .before .before .loop in
+    let a = the (tie.Start Inv-loop μ-loop) (search) .args in
+    let loop = the (tie.At-loop Inv-loop μ-loop) (search) .loop in
     let n = c .before .char-len-in in (
       char-step (a .s .now) (loop .at) (n .result) (n .ensures) (c .if1 .left) .inside,
       loop .inv .1 ∙ chars-more (a .s .now) (loop .at) (a .stop) (n .result) (omega arith) (n .ensures) (c .if1 .left),
     )
 
 returns-2 : tie.Need-returns-2 Inv-loop μ-loop
-returns-2 c = let a = c .before .before .before .args in sym (c .before .loop .inv .1 ∙ chars-stop (a .s .now) (c .before .loop .at) (a .stop) (omega arith))
+returns-2 c = let a = the (tie.Start Inv-loop μ-loop) (search) .args in sym (c .before .loop .inv .1 ∙ chars-stop (a .s .now) (c .before .loop .at) (a .stop) (omega arith))
 
 pub past-chars-spec : {M : Type 1} → statement M
 past-chars-spec =
     tie.close
-    (tie.spec
-    Inv-loop
-    μ-loop
-    loop-holds
-    char-len-in-requires
-    returns
-    add-at
-    loop-less
-    loop-again
-    returns-2)
+    (tie.spec Inv-loop μ-loop loop-holds (λ c κs. search needs) returns add-at loop-less loop-again returns-2)

@@ -7,6 +7,7 @@ use native.Mathlib.Omega.{arith}
 use lib.ListN.{length}
 use Rattle.characters.specs.Lengths.{utf8End}
 use Rattle.characters.proofs.Ends.{end-end}
+use Rattle.format.proofs.Typed.{the}
 use Rattle.utf8.proofs.Passed.{blocks-end-passed}
 use Rattle.utf8.proofs.Parts.{turn-keeps, turn-ends, turn-less}
 use Rattle.utf8.proofs.utf8_end.Statement.{statement}
@@ -26,56 +27,46 @@ past-blocks-requires c κs = omega arith
 
 block-end-requires : tie.Need-block-end-requires Inv-loop μ-loop
 block-end-requires c κs =
-    blocks-end-passed (c .before .before .before .before .args .s .now) (c .before .before .loop .at) (c .past-blocks .result) (c .past-blocks .ensures) (omega arith)
+    blocks-end-passed (the (tie.Start Inv-loop μ-loop) (search) .args .s .now) (the (tie.At-loop Inv-loop μ-loop) (search) .loop .at) (c .past-blocks .result) (c .past-blocks .ensures) (omega arith)
     .inside
 
 past-part-requires : tie.Need-past-part-requires Inv-loop μ-loop
 past-part-requires c κs =
-    let run = c .before .before .past-blocks in
-    let p = blocks-end-passed (c .before .before .before .before .before .before .args .s .now) (c .before .before .before .before .loop .at) (run .result) (run .ensures) (omega arith) in
+    let run = the (tie.After-past-blocks Inv-loop μ-loop) (search) .past-blocks in
+    let p = blocks-end-passed (the (tie.Start Inv-loop μ-loop) (search) .args .s .now) (the (tie.At-loop Inv-loop μ-loop) (search) .loop .at) (run .result) (run .ensures) (omega arith) in
     (refl, omega (arith, c .before .block-end .ensures, p .inside), omega (arith, c .before .block-end .ensures))
 
 returns : tie.Need-returns Inv-loop μ-loop
 returns c =
-    let a = c .before .before .before .before .before .before .before .before .args in
-    let loop = c .before .before .before .before .before .before .loop in
-    let run = c .before .before .before .before .past-blocks in
-    let stop = c .before .before .before .block-end in
+    let a = the (tie.Start Inv-loop μ-loop) (search) .args in
+    let loop = the (tie.At-loop Inv-loop μ-loop) (search) .loop in
+    let run = the (tie.After-past-blocks Inv-loop μ-loop) (search) .past-blocks in
+    let stop = the (tie.After-block-end Inv-loop μ-loop) (search) .block-end in
     let part = c .before .past-part in
     sym (loop .inv ∙ turn-ends (a .s .now) (loop .at) (run .result) (stop .result) (part .result) (omega arith) (run .ensures) (stop .ensures) (part .ensures) (c .if1 .taken))
 
 loop-less : tie.Need-loop-less Inv-loop μ-loop
 loop-less c =
-    let a = c .before .before .before .before .before .before .before .before .args in
-    let loop = c .before .before .before .before .before .before .loop in
-    let run = c .before .before .before .before .past-blocks in
-    let stop = c .before .before .before .block-end in
+    let a = the (tie.Start Inv-loop μ-loop) (search) .args in
+    let loop = the (tie.At-loop Inv-loop μ-loop) (search) .loop in
+    let run = the (tie.After-past-blocks Inv-loop μ-loop) (search) .past-blocks in
+    let stop = the (tie.After-block-end Inv-loop μ-loop) (search) .block-end in
     let part = c .before .past-part in
     turn-less (a .s .now) (loop .at) (run .result) (stop .result) (part .result) (omega arith) (run .ensures) (stop .ensures) (part .ensures) (omega arith)
 
 loop-again : tie.Need-loop-again Inv-loop μ-loop
 loop-again c =
-    let a = c .before .before .before .before .before .before .before .before .args in
-    let loop = c .before .before .before .before .before .before .loop in
-    let run = c .before .before .before .before .past-blocks in
-    let stop = c .before .before .before .block-end in
+    let a = the (tie.Start Inv-loop μ-loop) (search) .args in
+    let loop = the (tie.At-loop Inv-loop μ-loop) (search) .loop in
+    let run = the (tie.After-past-blocks Inv-loop μ-loop) (search) .past-blocks in
+    let stop = the (tie.After-block-end Inv-loop μ-loop) (search) .block-end in
     let part = c .before .past-part in
     loop .inv ∙ turn-keeps (a .s .now) (loop .at) (run .result) (stop .result) (part .result) (omega arith) (run .ensures) (stop .ensures) (part .ensures)
 
 returns-2 : tie.Need-returns-2 Inv-loop μ-loop
-returns-2 c = sym (c .before .loop .inv ∙ end-end (c .before .before .before .args .s .now) (c .before .loop .at) (omega arith))
+returns-2 c = sym (c .before .loop .inv ∙ end-end (the (tie.Start Inv-loop μ-loop) (search) .args .s .now) (c .before .loop .at) (omega arith))
 
 pub utf8-end-spec : {M : Type 1} → statement M
 utf8-end-spec =
     tie.close
-    (tie.spec
-    Inv-loop
-    μ-loop
-    loop-holds
-    past-blocks-requires
-    block-end-requires
-    past-part-requires
-    returns
-    loop-less
-    loop-again
-    returns-2)
+    (tie.spec Inv-loop μ-loop loop-holds past-blocks-requires block-end-requires past-part-requires returns loop-less loop-again returns-2)

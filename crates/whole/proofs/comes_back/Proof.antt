@@ -6,6 +6,7 @@ use borrow.Author.Needs.{needs}
 use Rattle.format.specs.Message.{Message}
 use Rattle.format.specs.Layout.{Lent, Held}
 use Rattle.format.specs.Lending.{bothLent}
+use Rattle.format.proofs.Typed.{the}
 use Rattle.whole.specs.Loss.{wholeHeld}
 use Rattle.whole.proofs.Lossless.{answers, reads-back-exactly}
 use Rattle.whole.proofs.comes_back.Statement.{statement}
@@ -13,17 +14,14 @@ use Rattle.whole.proofs.comes_back.Tie as tie
 
 abbrev lent : tie.After-loss-of → Lent
 lent c =
-    let args = c .before .before .before .args in
+    let args = the tie.Start (search) .args in
     bothLent (args .m) (args .head .now) (args .body .now)
 
 told : (c : tie.After-loss-of) (o : Option Message) → Held (lent c) o → eqb (c .loss-of .result .clause) 0 ≡ wholeHeld o
 told c o held = answers o (c .loss-of .result) (c .loss-of .ensures o held)
 
-loss-of-requires : tie.Need-loss-of-requires
-loss-of-requires c κs = search needs
-
 returns : tie.Need-returns
-returns c = (told (c .before), reads-back-exactly (lent (c .before)) (eqb (c .before .loss-of .result .clause) 0) (told (c .before)))
+returns c = (told (search), reads-back-exactly (lent (search)) (eqb (c .before .loss-of .result .clause) 0) (told (search)))
 
 pub comes-back-spec : {M : Type 1} → statement M
-comes-back-spec = tie.close (tie.spec loss-of-requires returns)
+comes-back-spec = tie.close (tie.spec (λ c κs. search needs) returns)

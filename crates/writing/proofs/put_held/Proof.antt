@@ -10,50 +10,39 @@ use Rattle.format.specs.Writing.{write}
 use Rattle.octets.proofs.Paste.{pasted-start}
 use Rattle.held.specs.Decoding.{messageIn}
 use Rattle.put_parts.proofs.Whole.{numbered, headers-hold}
+use Rattle.format.proofs.Typed.{the}
 use Rattle.writing.proofs.Held.{contents-shaped, type-within, slices-are}
 use Rattle.writing.proofs.put_held.Statement.{statement}
 use Rattle.writing.proofs.put_held.Tie as tie
 
 add-from : tie.Need-add-from
 add-from c =
-    let start = c .before .before .before .before in
+    let start : tie.Start = search in
     omega (arith, numbered (start .args .m) (start .args .head .now) (start .pre .0) .used, start .good)
 
 add-to : tie.Need-add-to
 add-to c =
-    let start = c .before .before .before .before .before in
+    let start : tie.Start = search in
     omega (arith, numbered (start .args .m) (start .args .head .now) (start .pre .0) .used, start .good)
-
-sub-write-text : tie.Need-sub-write-text
-sub-write-text c = search needs
-
-part-write-text-start : tie.Need-part-write-text-start
-part-write-text-start c = search needs
 
 part-write-text-end : tie.Need-part-write-text-end
 part-write-text-end c =
-    let start = c .before .before .before .before .before .before in
+    let start : tie.Start = search in
     omega (arith, numbered (start .args .m) (start .args .head .now) (start .pre .0) .used)
 
 slice-aggregate-write-text : tie.Need-slice-aggregate-write-text
 slice-aggregate-write-text c =
-    let start = c .before .before .before .before .before .before .before .before in
+    let start : tie.Start = search in
     sym (length-take-le (start .args .m .typelen) (start .args .head .now) (type-within (start .args .m) (start .args .head .now) (start .pre .0)))
-
-sub-write-text-2 : tie.Need-sub-write-text-2
-sub-write-text-2 c = search needs
-
-part-write-text-start-2 : tie.Need-part-write-text-start-2
-part-write-text-start-2 c = search needs
 
 part-write-text-end-2 : tie.Need-part-write-text-end-2
 part-write-text-end-2 c =
-    let start = c .before .before .before .before .before .before .before .before in
+    let start : tie.Start = search in
     omega (arith, numbered (start .args .m) (start .args .head .now) (start .pre .0) .used)
 
 write-text-requires : tie.Need-write-text-requires
 write-text-requires c κs =
-    let start = c .before .before .before .before .before .before .before .before .before in
+    let start : tie.Start = search in
     let m = start .args .m in
     let head = start .args .head .now in
     let held = start .pre .0 in (
@@ -62,32 +51,21 @@ write-text-requires c κs =
     )
 
 same-length : tie.Need-same-length
-same-length c = c .before .before .write-text .kept .0
+same-length c = the tie.After-write-text (search) .write-text .kept .0
 
 returns : tie.Need-returns
 returns c =
-    let start = c .before .before .before .before .before .before .before .before .before .before .before .before in
+    let start : tie.Start = search in
     let m = start .args .m in
     let head = start .args .head .now in
     let body = start .args .body .now in
     let out = start .args .out .now in
-    c .before .before .write-text .ensures .1
+    the tie.After-write-text (search) .write-text .ensures .1
     ∙ ap (λ (k : Message). pasted 0 (write k) out) (slices-are m head (start .pre .0) body)
     ∙ pasted-start (write (messageIn m head body)) out
 
 pub put-held-spec : {M : Type 1} → statement M
 put-held-spec =
     tie.close
-    (tie.spec
-    add-from
-    add-to
-    sub-write-text
-    part-write-text-start
-    part-write-text-end
-    slice-aggregate-write-text
-    sub-write-text-2
-    part-write-text-start-2
-    part-write-text-end-2
-    write-text-requires
-    same-length
-    returns)
+    (tie.spec add-from add-to (λ c. search needs) (λ c. search needs) part-write-text-end slice-aggregate-write-text (λ c. search needs)
+    (λ c. search needs) part-write-text-end-2 write-text-requires same-length returns)

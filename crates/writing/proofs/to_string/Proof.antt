@@ -9,31 +9,29 @@ use borrow.Author.Needs.{needs}
 use borrow.Author.Tests.{not-true, not-false}
 use Rattle.held.specs.Holding.{messageHolds}
 use Rattle.put_parts.proofs.Whole.{numbered}
+use Rattle.format.proofs.Typed.{the}
 use Rattle.writing.proofs.Ways.{wrote-unheld, wrote-short, wrote-full, wrote-text}
 use Rattle.writing.proofs.to_string.Statement.{statement}
 use Rattle.writing.proofs.to_string.Tie as tie
 
 abbrev start : tie.Else1 → tie.Start
-start c = c .before .before .before .before .before
+start c = search
 
 holds : (c : tie.Else1) → messageHolds (start c .args .m) (start c .args .head .now) ≡ true
 holds c = sym (c .before .message-holds .ensures) ∙ not-false _ (c .if1 .left)
 
-message-holds-requires : tie.Need-message-holds-requires
-message-holds-requires c κs = search needs
-
 returns : tie.Need-returns
 returns c =
-    let args = c .before .before .before .before .before .args in
+    let args = the tie.Start (search) .args in
     wrote-unheld (args .m) (args .head .now) (args .body .now) (args .out .now) (sym (c .before .message-holds .ensures) ∙ not-true _ (c .if1 .taken))
 
 returns-2 : tie.Need-returns-2
 returns-2 c =
-    let args = start (c .before .before) .args in
+    let args = start (search) .args in
     wrote-short (args .m) (args .head .now) (args .body .now) (args .out .now) (omega arith)
 
 abbrev passed : tie.After-held → tie.Else1
-passed c = c .before .before .before
+passed c = search
 
 -- the body is there
 fits : (c : tie.After-held) → start (passed c) .args .m .bodylen ≤ length (start (passed c) .args .body .now)
@@ -42,50 +40,38 @@ fits c = omega arith
 slice-aggregate-held : tie.Need-slice-aggregate-held
 slice-aggregate-held c = sym (length-take-le (start (passed c) .args .m .bodylen) (start (passed c) .args .body .now) (fits c))
 
-utf8-end-requires : tie.Need-utf8-end-requires
-utf8-end-requires c κs = search needs
-
 text-len-requires : tie.Need-text-len-requires
 text-len-requires c κs =
-    let args = start (passed (c .before)) .args in
-    let held = holds (passed (c .before)) in
-    (held, c .utf8-end .ensures, omega (arith, numbered (args .m) (args .head .now) held .body, length-take-le (args .m .bodylen) (args .body .now) (fits (c .before))))
+    let args = start (passed (search)) .args in
+    let held = holds (passed (search)) in
+    (held, c .utf8-end .ensures, omega (arith, numbered (args .m) (args .head .now) held .body, length-take-le (args .m .bodylen) (args .body .now) (fits (search))))
 
 returns-3 : tie.Need-returns-3
 returns-3 c =
-    let at = c .before .before .before in
+    let at : tie.After-held = search in
     let args = start (passed at) .args in
     wrote-full (args .m) (args .head .now) (args .body .now) (args .out .now) (holds (passed at)) (fits at) (c .before .text-len .result) (c .before .text-len .ensures)
     (omega arith) (omega (arith, c .before .text-len .ok))
 
 put-held-requires : tie.Need-put-held-requires
 put-held-requires c κs =
-    let measured = c .before .before in
-    let at = measured .before .before in
+    let measured : tie.After-text-len = search in
+    let at : tie.After-held = search in
     (holds (passed at), measured .before .utf8-end .ensures, omega (arith, measured .text-len .ensures))
 
 same-length : tie.Need-same-length
-same-length c = c .before .before .put-held .kept .1 .1 .1 .1 .0
+same-length c = the tie.After-put-held (search) .put-held .kept .1 .1 .1 .1 .0
 
 returns-4 : tie.Need-returns-4
 returns-4 c =
-    let put = c .before .before in
-    let measured = put .before .before .before in
-    let at = measured .before .before in
+    let put : tie.After-put-held = search in
+    let measured : tie.After-text-len = search in
+    let at : tie.After-held = search in
     let args = start (passed at) .args in
     wrote-text (args .m) (args .head .now) (args .body .now) (args .out .now) (holds (passed at)) (fits at) _ _ (measured .text-len .ensures) (omega arith) (put .put-held .ensures)
 
 pub to-string-spec : {M : Type 1} → statement M
 to-string-spec =
     tie.close
-    (tie.spec
-    message-holds-requires
-    returns
-    returns-2
-    slice-aggregate-held
-    utf8-end-requires
-    text-len-requires
-    returns-3
-    put-held-requires
-    same-length
-    returns-4)
+    (tie.spec (λ c κs. search needs) returns returns-2 slice-aggregate-held (λ c κs. search needs) text-len-requires returns-3 put-held-requires
+    same-length returns-4)

@@ -4,6 +4,7 @@ use mathlib.Core.Bool.{true, false}
 use native.Mathlib.Omega.{arith}
 use lib.ListN.{length}
 use Rattle.format.specs.Bytes.{total}
+use Rattle.format.proofs.Typed.{the}
 use Rattle.entries.specs.Stored.{storedSize}
 use Rattle.entries.specs.Passing.{passedOver, whilst}
 use Rattle.entries.proofs.Walks.{rest}
@@ -11,11 +12,11 @@ use Rattle.entries.proofs.groups.find_group.Statement.{statement}
 use Rattle.entries.proofs.groups.find_group.Tie as tie
 
 pass-requires : tie.Need-pass-requires
-pass-requires c κs = c .before .before .pre
+pass-requires c κs = the tie.Start (search) .pre
 
 sub-pass : tie.Need-sub-pass
 sub-pass c =
-    let start = c .before .before .before .before in
+    let start : tie.Start = search in
     let s = start .args .s .now in
     let count = start .args .count in
     let left = rest (passedOver false (start .args .name .now)) count s _ _ (start .pre) (c .before .pass .ensures .0) (c .before .pass .ensures .1) in
@@ -23,7 +24,7 @@ sub-pass c =
 
 pass-requires-2 : tie.Need-pass-requires-2
 pass-requires-2 c κs =
-    let start = c .before .before .before .before in
+    let start : tie.Start = search in
     let s = start .args .s .now in
     let count = start .args .count in
     let left = rest (passedOver false (start .args .name .now)) count s _ _ (start .pre) (c .before .pass .ensures .0) (c .before .pass .ensures .1) in
@@ -31,12 +32,12 @@ pass-requires-2 c κs =
 
 returns : tie.Need-returns
 returns c =
-    let start = c .before .before .before .before .before in
+    let start : tie.Start = search in
     let s = start .args .s .now in
     let count = start .args .count in
-    let left = rest (passedOver false (start .args .name .now)) count s _ _ (start .pre) (c .before .before .pass .ensures .0) (c .before .before .pass .ensures .1) in
+    let left = rest (passedOver false (start .args .name .now)) count s _ _ (start .pre) (the tie.After-pass (search) .pass .ensures .0) (the tie.After-pass (search) .pass .ensures .1) in
     let same = ap (whilst (passedOver true (start .args .name .now))) (left .entries) in (
-      c .before .before .pass .ensures .0,
+      the tie.After-pass (search) .pass .ensures .0,
       (c .pass2 .ensures .0 ∙ ap (total storedSize) same, c .pass2 .ensures .1 ∙ ap length same),
     )
 

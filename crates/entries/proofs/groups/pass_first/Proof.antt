@@ -14,13 +14,13 @@ abbrev μ-loop : tie.MeasureT-loop
 
 loop-holds : tie.Need-loop-holds Inv-loop μ-loop
 loop-holds c =
-    let start = c .before in
+    let start : tie.Start Inv-loop μ-loop = search in
     first-start (start .args .s .now) (start .args .from) (start .args .count) (start .args .n) (start .pre .1) (start .pre .0)
 
 add-entry-len : tie.Need-add-entry-len Inv-loop μ-loop
 add-entry-len c =
-    let at-loop = c .before in
-    let start = at-loop .before .before in
+    let at-loop : tie.At-loop Inv-loop μ-loop = search in
+    let start : tie.Start Inv-loop μ-loop = search in
     let args = start .args in
     let s = args .s .now in
     let size = at-loop .loop .size in
@@ -30,8 +30,8 @@ add-entry-len c =
 
 entry-len-requires : tie.Need-entry-len-requires Inv-loop μ-loop
 entry-len-requires c κs =
-    let at-loop = c .before in
-    let start = at-loop .before .before in
+    let at-loop : tie.At-loop Inv-loop μ-loop = search in
+    let start : tie.Start Inv-loop μ-loop = search in
     let args = start .args in
     let s = args .s .now in
     let size = at-loop .loop .size in
@@ -41,8 +41,8 @@ entry-len-requires c κs =
 
 add-size : tie.Need-add-size Inv-loop μ-loop
 add-size c =
-    let at-loop = c .before .before in
-    let start = at-loop .before .before in
+    let at-loop : tie.At-loop Inv-loop μ-loop = search in
+    let start : tie.Start Inv-loop μ-loop = search in
     let args = start .args in
     let s = args .s .now in
     let size = at-loop .loop .size in
@@ -58,8 +58,8 @@ loop-less c = omega arith
 
 loop-again : tie.Need-loop-again Inv-loop μ-loop
 loop-again c =
-    let at-loop = c .before .before in
-    let start = at-loop .before .before in
+    let at-loop : tie.At-loop Inv-loop μ-loop = search in
+    let start : tie.Start Inv-loop μ-loop = search in
     let args = start .args in
     let s = args .s .now in
     let size = at-loop .loop .size in
@@ -69,8 +69,8 @@ loop-again c =
 
 returns : tie.Need-returns Inv-loop μ-loop
 returns c =
-    let at-loop = c .before in
-    let start = at-loop .before .before in
+    let at-loop : tie.At-loop Inv-loop μ-loop = search in
+    let start : tie.Start Inv-loop μ-loop = search in
     let args = start .args in
     let s = args .s .now in
     let size = at-loop .loop .size in
@@ -81,14 +81,4 @@ returns c =
 pub pass-first-spec : {M : Type 1} → statement M
 pass-first-spec =
     tie.close
-    (tie.spec
-    Inv-loop
-    μ-loop
-    loop-holds
-    add-entry-len
-    entry-len-requires
-    add-size
-    add-many
-    loop-less
-    loop-again
-    returns)
+    (tie.spec Inv-loop μ-loop loop-holds add-entry-len entry-len-requires add-size add-many loop-less loop-again returns)

@@ -3,88 +3,64 @@ use mathlib.Core.Path.{_≡_, refl, sym, _∙_}
 use mathlib.Core.Bool.{true, false}
 use borrow.Author.Needs.{needs}
 use Rattle.format.specs.Bytes.{any, has}
+use Rattle.format.proofs.Typed.{the}
 use Rattle.escape.specs.Bare.{isLow}
 use Rattle.escape.proofs.ByKind.{bare-kinds}
 use Rattle.escape.proofs.bare.bare_block.Statement.{statement}
 use Rattle.escape.proofs.bare.bare_block.Tie as tie
 
-has-low-requires : tie.Need-has-low-requires
-has-low-requires c κs = search needs
-
 returns : tie.Need-returns
 returns c =
-    let s = c .before .before .before .args .block .now in
+    let s = the tie.Start (search) .args .block .now in
     let e1 : any isLow s ≡ true = sym (c .before .has-low .ensures) ∙ c .if1 .taken in
     sym (bare-kinds s ∙ rw (e1) refl)
 
-has-byte-requires : tie.Need-has-byte-requires
-has-byte-requires c κs = search needs
-
 returns-2 : tie.Need-returns-2
 returns-2 c =
-    let s = c .before .before .before .before .before .args .block .now in
-    let e1 : any isLow s ≡ false = sym (c .before .before .before .has-low .ensures) ∙ c .before .before .if1 .left in
+    let s = the tie.Start (search) .args .block .now in
+    let e1 : any isLow s ≡ false = sym (the tie.After-has-low (search) .has-low .ensures) ∙ the tie.Else1 (search) .if1 .left in
     let e2 : has 34 s ≡ true = sym (c .before .has-byte .ensures) ∙ c .if2 .taken in
     sym (bare-kinds s ∙ rw (e1, e2) refl)
 
-has-byte-requires-2 : tie.Need-has-byte-requires-2
-has-byte-requires-2 c κs = search needs
-
 returns-3 : tie.Need-returns-3
 returns-3 c =
-    let s = c .before .before .before .before .before .before .before .args .block .now in
-    let e1 : any isLow s ≡ false = sym (c .before .before .before .before .before .has-low .ensures) ∙ c .before .before .before .before .if1 .left in
-    let e2 : has 34 s ≡ false = sym (c .before .before .before .has-byte .ensures) ∙ c .before .before .if2 .left in
+    let s = the tie.Start (search) .args .block .now in
+    let e1 : any isLow s ≡ false = sym (the tie.After-has-low (search) .has-low .ensures) ∙ the tie.Else1 (search) .if1 .left in
+    let e2 : has 34 s ≡ false = sym (the tie.After-has-byte (search) .has-byte .ensures) ∙ the tie.Else2 (search) .if2 .left in
     let e3 : has 92 s ≡ true = sym (c .before .has-byte2 .ensures) ∙ c .if3 .taken in
     sym (bare-kinds s ∙ rw (e1, e2, e3) refl)
 
-has-byte-requires-3 : tie.Need-has-byte-requires-3
-has-byte-requires-3 c κs = search needs
-
 returns-4 : tie.Need-returns-4
 returns-4 c =
-    let s = c .before .before .before .before .before .before .before .before .before .args .block .now in
-    let e1 : any isLow s ≡ false = sym (c .before .before .before .before .before .before .before .has-low .ensures) ∙ c .before .before .before .before .before .before .if1 .left in
-    let e2 : has 34 s ≡ false = sym (c .before .before .before .before .before .has-byte .ensures) ∙ c .before .before .before .before .if2 .left in
-    let e3 : has 92 s ≡ false = sym (c .before .before .before .has-byte2 .ensures) ∙ c .before .before .if3 .left in
+    let s = the tie.Start (search) .args .block .now in
+    let e1 : any isLow s ≡ false = sym (the tie.After-has-low (search) .has-low .ensures) ∙ the tie.Else1 (search) .if1 .left in
+    let e2 : has 34 s ≡ false = sym (the tie.After-has-byte (search) .has-byte .ensures) ∙ the tie.Else2 (search) .if2 .left in
+    let e3 : has 92 s ≡ false = sym (the tie.After-has-byte2 (search) .has-byte2 .ensures) ∙ the tie.Else3 (search) .if3 .left in
     let e4 : has 127 s ≡ true = sym (c .before .has-byte3 .ensures) ∙ c .if4 .taken in
     sym (bare-kinds s ∙ rw (e1, e2, e3, e4) refl)
 
-has-byte-requires-4 : tie.Need-has-byte-requires-4
-has-byte-requires-4 c κs = search needs
-
 returns-5 : tie.Need-returns-5
 returns-5 c =
-    let s = c .before .before .before .before .before .before .before .before .before .before .before .args .block .now in
-    let e1 : any isLow s ≡ false = sym (c .before .before .before .before .before .before .before .before .before .has-low .ensures) ∙ c .before .before .before .before .before .before .before .before .if1 .left in
-    let e2 : has 34 s ≡ false = sym (c .before .before .before .before .before .before .before .has-byte .ensures) ∙ c .before .before .before .before .before .before .if2 .left in
-    let e3 : has 92 s ≡ false = sym (c .before .before .before .before .before .has-byte2 .ensures) ∙ c .before .before .before .before .if3 .left in
-    let e4 : has 127 s ≡ false = sym (c .before .before .before .has-byte3 .ensures) ∙ c .before .before .if4 .left in
+    let s = the tie.Start (search) .args .block .now in
+    let e1 : any isLow s ≡ false = sym (the tie.After-has-low (search) .has-low .ensures) ∙ the tie.Else1 (search) .if1 .left in
+    let e2 : has 34 s ≡ false = sym (the tie.After-has-byte (search) .has-byte .ensures) ∙ the tie.Else2 (search) .if2 .left in
+    let e3 : has 92 s ≡ false = sym (the tie.After-has-byte2 (search) .has-byte2 .ensures) ∙ the tie.Else3 (search) .if3 .left in
+    let e4 : has 127 s ≡ false = sym (the tie.After-has-byte3 (search) .has-byte3 .ensures) ∙ the tie.Else4 (search) .if4 .left in
     let e5 : has 194 s ≡ true = sym (c .before .has-byte4 .ensures) ∙ c .if5 .taken in
     sym (bare-kinds s ∙ rw (e1, e2, e3, e4, e5) refl)
 
 returns-6 : tie.Need-returns-6
 returns-6 c =
-    let s = c .before .before .before .before .before .before .before .before .before .before .before .args .block .now in
-    let e1 : any isLow s ≡ false = sym (c .before .before .before .before .before .before .before .before .before .has-low .ensures) ∙ c .before .before .before .before .before .before .before .before .if1 .left in
-    let e2 : has 34 s ≡ false = sym (c .before .before .before .before .before .before .before .has-byte .ensures) ∙ c .before .before .before .before .before .before .if2 .left in
-    let e3 : has 92 s ≡ false = sym (c .before .before .before .before .before .has-byte2 .ensures) ∙ c .before .before .before .before .if3 .left in
-    let e4 : has 127 s ≡ false = sym (c .before .before .before .has-byte3 .ensures) ∙ c .before .before .if4 .left in
+    let s = the tie.Start (search) .args .block .now in
+    let e1 : any isLow s ≡ false = sym (the tie.After-has-low (search) .has-low .ensures) ∙ the tie.Else1 (search) .if1 .left in
+    let e2 : has 34 s ≡ false = sym (the tie.After-has-byte (search) .has-byte .ensures) ∙ the tie.Else2 (search) .if2 .left in
+    let e3 : has 92 s ≡ false = sym (the tie.After-has-byte2 (search) .has-byte2 .ensures) ∙ the tie.Else3 (search) .if3 .left in
+    let e4 : has 127 s ≡ false = sym (the tie.After-has-byte3 (search) .has-byte3 .ensures) ∙ the tie.Else4 (search) .if4 .left in
     let e5 : has 194 s ≡ false = sym (c .before .has-byte4 .ensures) ∙ c .if5 .left in
     sym (bare-kinds s ∙ rw (e1, e2, e3, e4, e5) refl)
 
 pub bare-block-spec : {M : Type 1} → statement M
 bare-block-spec =
     tie.close
-    (tie.spec
-    has-low-requires
-    returns
-    has-byte-requires
-    returns-2
-    has-byte-requires-2
-    returns-3
-    has-byte-requires-3
-    returns-4
-    has-byte-requires-4
-    returns-5
-    returns-6)
+    (tie.spec (λ c κs. search needs) returns (λ c κs. search needs) returns-2 (λ c κs. search needs) returns-3 (λ c κs. search needs) returns-4
+    (λ c κs. search needs) returns-5 returns-6)

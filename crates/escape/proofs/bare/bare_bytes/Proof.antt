@@ -8,6 +8,7 @@ use lib.Seq.{take-all}
 use borrow.Author.Needs.{needs}
 use borrow.Author.Tests.{not-true, not-false}
 use Rattle.format.specs.Bytes.{all}
+use Rattle.format.proofs.Typed.{the}
 use Rattle.escape.specs.Bare.{isBare}
 use Rattle.escape.proofs.Parts.{all-start, all-byte, all-other}
 use Rattle.escape.proofs.bare.bare_bytes.Statement.{statement}
@@ -22,50 +23,29 @@ abbrev μ-loop : tie.MeasureT-loop
 loop-holds : tie.Need-loop-holds Inv-loop μ-loop
 loop-holds c = (omega arith, all-start isBare (c .before .args .v .now))
 
-shared-slice-read-bare-byte : tie.Need-shared-slice-read-bare-byte Inv-loop μ-loop
-shared-slice-read-bare-byte c = search needs
-
-bare-byte-requires : tie.Need-bare-byte-requires Inv-loop μ-loop
-bare-byte-requires c κs = search needs
-
 returns : tie.Need-returns Inv-loop μ-loop
 returns c =
-    let at-loop = c .before .before .before .before in
-    let args = at-loop .before .before .args in
+    let at-loop : tie.At-loop Inv-loop μ-loop = search in
+    let args = the (tie.Start Inv-loop μ-loop) (search) .args in
     let i = at-loop .loop .i in
     let e : isBare (getD (args .v .now) i 0) ≡ false = sym (c .before .bare-byte .ensures) ∙ not-true (c .before .bare-byte .result) (c .if1 .taken) in
     sym (all-other isBare (args .v .now) i (omega arith) e)
 
-add-i : tie.Need-add-i Inv-loop μ-loop
-add-i c = search needs
-
-loop-less : tie.Need-loop-less Inv-loop μ-loop
-loop-less c = search needs
-
 loop-again : tie.Need-loop-again Inv-loop μ-loop
 loop-again c =
-    let at-loop = c .before .before .before .before in
-    let args = at-loop .before .before .args in
+    let at-loop : tie.At-loop Inv-loop μ-loop = search in
+    let args = the (tie.Start Inv-loop μ-loop) (search) .args in
     let i = at-loop .loop .i in
     let e : isBare (getD (args .v .now) i 0) ≡ true = sym (c .before .bare-byte .ensures) ∙ not-false (c .before .bare-byte .result) (c .if1 .left) in
     (omega arith, all-byte isBare (args .v .now) i (omega arith) (at-loop .loop .inv .1) e)
 
 returns-2 : tie.Need-returns-2 Inv-loop μ-loop
 returns-2 c =
-    let args = c .before .before .before .args in
+    let args = the (tie.Start Inv-loop μ-loop) (search) .args in
     sym (c .before .loop .inv .1) ∙ ap (all isBare) (take-all (c .before .loop .i) (args .v .now) (omega arith))
 
 pub bare-bytes-spec : {M : Type 1} → statement M
 bare-bytes-spec =
     tie.close
-    (tie.spec
-    Inv-loop
-    μ-loop
-    loop-holds
-    shared-slice-read-bare-byte
-    bare-byte-requires
-    returns
-    add-i
-    loop-less
-    loop-again
+    (tie.spec Inv-loop μ-loop loop-holds (λ c. search needs) (λ c κs. search needs) returns (λ c. search needs) (λ c. search needs) loop-again
     returns-2)

@@ -9,6 +9,7 @@ use lib.Seq.{take-all}
 use borrow.Author.Needs.{needs}
 use borrow.Author.Tests.{not-true, not-false}
 use Rattle.format.specs.Bytes.{all}
+use Rattle.format.proofs.Typed.{the}
 use Rattle.escape.specs.Bare.{isBare}
 use Rattle.escape.proofs.Parts.{all-start, all-next, all-stop, all-last}
 use Rattle.escape.proofs.bare.bare_text.Statement.{statement}
@@ -20,50 +21,26 @@ Inv-loop v last i₀ i = (i ≤ last + 16) × (all isBare (take i v) ≡ true)
 abbrev μ-loop : tie.MeasureT-loop
 μ-loop v last i₀ i = last - i
 
-bare-bytes-requires : tie.Need-bare-bytes-requires Inv-loop μ-loop
-bare-bytes-requires c κs = search needs
-
 returns : tie.Need-returns Inv-loop μ-loop
 returns c = c .bare-bytes .ensures
 
-sub-last : tie.Need-sub-last Inv-loop μ-loop
-sub-last c = search needs
-
 loop-holds : tie.Need-loop-holds Inv-loop μ-loop
-loop-holds c = (omega arith, all-start isBare (c .before .before .args .v .now))
-
-add-bare-block : tie.Need-add-bare-block Inv-loop μ-loop
-add-bare-block c = search needs
-
-sub-bare-block : tie.Need-sub-bare-block Inv-loop μ-loop
-sub-bare-block c = search needs
-
-part-bare-block-start : tie.Need-part-bare-block-start Inv-loop μ-loop
-part-bare-block-start c = search needs
-
-part-bare-block-end : tie.Need-part-bare-block-end Inv-loop μ-loop
-part-bare-block-end c = search needs
+loop-holds c = (omega arith, all-start isBare (the (tie.Start Inv-loop μ-loop) (search) .args .v .now))
 
 bare-block-requires : tie.Need-bare-block-requires Inv-loop μ-loop
 bare-block-requires c κs = simp (length-take, length-drop) (omega arith)
 
 returns-2 : tie.Need-returns-2 Inv-loop μ-loop
 returns-2 c =
-    let at-loop = c .before .before .before .before in
-    let v = at-loop .before .before .before .args .v .now in
+    let at-loop : tie.At-loop Inv-loop μ-loop = search in
+    let v = the (tie.Start Inv-loop μ-loop) (search) .args .v .now in
     let i = at-loop .loop .i in
     sym (all-stop isBare v i (i + 16 - i) (sym (c .before .bare-block .ensures) ∙ not-true (c .before .bare-block .result) (c .if2 .taken)))
 
-add-i : tie.Need-add-i Inv-loop μ-loop
-add-i c = search needs
-
-loop-less : tie.Need-loop-less Inv-loop μ-loop
-loop-less c = search needs
-
 loop-again : tie.Need-loop-again Inv-loop μ-loop
 loop-again c =
-    let at-loop = c .before .before .before .before in
-    let v = at-loop .before .before .before .args .v .now in
+    let at-loop : tie.At-loop Inv-loop μ-loop = search in
+    let v = the (tie.Start Inv-loop μ-loop) (search) .args .v .now in
     let i = at-loop .loop .i in
     let n : i + 16 - i ≡ 16 = omega arith in
     let e : all isBare (take 16 (drop i v)) ≡ true =
@@ -72,22 +49,13 @@ loop-again c =
     ∙ not-false (c .before .bare-block .result) (c .if2 .left) in
     (omega arith, all-next isBare v i 16 (at-loop .loop .inv .1) e)
 
-sub-bare-block-2 : tie.Need-sub-bare-block-2 Inv-loop μ-loop
-sub-bare-block-2 c = search needs
-
-part-bare-block-start-2 : tie.Need-part-bare-block-start-2 Inv-loop μ-loop
-part-bare-block-start-2 c = search needs
-
-part-bare-block-end-2 : tie.Need-part-bare-block-end-2 Inv-loop μ-loop
-part-bare-block-end-2 c = search needs
-
 bare-block-requires-2 : tie.Need-bare-block-requires-2 Inv-loop μ-loop
 bare-block-requires-2 c κs = simp (length-take, length-drop) (omega arith)
 
 returns-3 : tie.Need-returns-3 Inv-loop μ-loop
 returns-3 c =
-    let at-loop = c .before .before .before in
-    let v = at-loop .before .before .before .args .v .now in
+    let at-loop : tie.At-loop Inv-loop μ-loop = search in
+    let v = the (tie.Start Inv-loop μ-loop) (search) .args .v .now in
     let last = length v - 16 in
     c .bare-block2 .ensures
     ∙ ap (all isBare) (take-all (length v - last) (drop last v) (simp length-drop (omega arith)))
@@ -96,24 +64,6 @@ returns-3 c =
 pub bare-text-spec : {M : Type 1} → statement M
 bare-text-spec =
     tie.close
-    (tie.spec
-    Inv-loop
-    μ-loop
-    bare-bytes-requires
-    returns
-    sub-last
-    loop-holds
-    add-bare-block
-    sub-bare-block
-    part-bare-block-start
-    part-bare-block-end
-    bare-block-requires
-    returns-2
-    add-i
-    loop-less
-    loop-again
-    sub-bare-block-2
-    part-bare-block-start-2
-    part-bare-block-end-2
-    bare-block-requires-2
-    returns-3)
+    (tie.spec Inv-loop μ-loop (λ c κs. search needs) returns (λ c. search needs) loop-holds (λ c. search needs) (λ c. search needs)
+    (λ c. search needs) (λ c. search needs) bare-block-requires returns-2 (λ c. search needs) (λ c. search needs) loop-again (λ c. search needs)
+    (λ c. search needs) (λ c. search needs) bare-block-requires-2 returns-3)

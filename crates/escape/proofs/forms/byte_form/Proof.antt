@@ -4,6 +4,7 @@ use native.Mathlib.Omega.{arith}
 use borrow.Author.Needs.{needs}
 use Rattle.format.specs.Characters.{isAsciiControl}
 use Rattle.format.specs.Escaping.{shortForm}
+use Rattle.format.proofs.Typed.{the}
 use Rattle.escape.specs.Forms.{byteForm}
 use Rattle.escape.proofs.FormAt.{byte-plain}
 use Rattle.escape.proofs.forms.byte_form.Statement.{statement}
@@ -14,37 +15,23 @@ unfolding byteForm shortForm isAsciiControl
 returns c = rw (c .if2 .taken) refl
 
 returns-2 : tie.Need-returns-2
-returns-2 c = sym (byte-plain (c .before .before .args .b) (omega arith) (λ e. omega arith) (λ e. omega arith) (c .if2 .left))
+returns-2 c = sym (byte-plain (the tie.Start (search) .args .b) (omega arith) (λ e. omega arith) (λ e. omega arith) (c .if2 .left))
 
 returns-3 : tie.Need-returns-3
 unfolding byteForm shortForm isAsciiControl
 returns-3 c = rw (c .if3 .taken) refl
 
 returns-4 : tie.Need-returns-4
-returns-4 c = sym (byte-plain (c .before .before .before .args .b) (omega arith) (λ e. omega arith) (c .before .if3 .left) (λ e. omega arith))
+returns-4 c = sym (byte-plain (the tie.Start (search) .args .b) (omega arith) (λ e. omega arith) (c .before .if3 .left) (λ e. omega arith))
 
 returns-5 : tie.Need-returns-5
 unfolding byteForm shortForm isAsciiControl
 returns-5 c = rw (c .if5 .taken) refl
 
 returns-6 : tie.Need-returns-6
-returns-6 c = sym (byte-plain (c .before .before .before .before .before .args .b) (omega arith) (c .before .if5 .left) (λ e. omega arith) (λ e. omega arith))
-
-low-form-requires : tie.Need-low-form-requires
-low-form-requires c κs = search needs
-
-returns-7 : tie.Need-returns-7
-returns-7 c = search needs
+returns-6 c = sym (byte-plain (the tie.Start (search) .args .b) (omega arith) (c .before .if5 .left) (λ e. omega arith) (λ e. omega arith))
 
 pub byte-form-spec : {M : Type 1} → statement M
 byte-form-spec =
     tie.close
-    (tie.spec
-    returns
-    returns-2
-    returns-3
-    returns-4
-    returns-5
-    returns-6
-    low-form-requires
-    returns-7)
+    (tie.spec returns returns-2 returns-3 returns-4 returns-5 returns-6 (λ c κs. search needs) (λ c. search needs))

@@ -4,71 +4,43 @@ use native.Mathlib.Omega.{arith}
 use borrow.Author.Needs.{needs}
 use Rattle.format.proofs.Characters.Table.{within-below, within-above}
 use Rattle.format.specs.Characters.{_to_}
+use Rattle.format.proofs.Typed.{the}
 use Rattle.escape.proofs.FormAt.{form-other, form-end, form-beside, form-upper}
 use Rattle.escape.proofs.forms.form_at.Statement.{statement}
 use Rattle.escape.proofs.forms.form_at.Tie as tie
 
-shared-slice-read-b : tie.Need-shared-slice-read-b
-shared-slice-read-b c = search needs
-
-byte-form-requires : tie.Need-byte-form-requires
-byte-form-requires c κs = search needs
-
 returns : tie.Need-returns
 returns c =
-    let args = c .before .before .before .before .args in
+    let args = the tie.Start (search) .args in
     c .byte-form .ensures ∙ sym (form-other (args .v .now) (args .i) (omega arith) (c .before .if1 .taken))
-
-add-next : tie.Need-add-next
-add-next c = search needs
-
-byte-form-requires-2 : tie.Need-byte-form-requires-2
-byte-form-requires-2 c κs = search needs
 
 returns-2 : tie.Need-returns-2
 returns-2 c =
-    let args = c .before .before .before .before .before .args in
+    let args = the tie.Start (search) .args in
     c .byte-form2 .ensures ∙ sym (form-end (args .v .now) (args .i) (omega arith) (omega arith))
 
 shared-slice-read-c : tie.Need-shared-slice-read-c
 shared-slice-read-c c = search needs
 
-byte-form-requires-3 : tie.Need-byte-form-requires-3
-byte-form-requires-3 c κs = search needs
-
 returns-3 : tie.Need-returns-3
 returns-3 c =
-    let args = c .before .before .before .before .before .before .before .args in
+    let args = the tie.Start (search) .args in
     c .byte-form3 .ensures
     ∙ sym (form-beside (args .v .now) (args .i) (omega arith) (omega arith) (within-below _ (0x80 to 0x9F) (c .before .if3 .taken)))
 
-byte-form-requires-4 : tie.Need-byte-form-requires-4
-byte-form-requires-4 c κs = search needs
-
 returns-4 : tie.Need-returns-4
 returns-4 c =
-    let args = c .before .before .before .before .before .before .before .before .args in
+    let args = the tie.Start (search) .args in
     c .byte-form4 .ensures ∙ sym (form-beside (args .v .now) (args .i) (omega arith) (omega arith) (within-above _ (0x80 to 0x9F) (c .before .if4 .taken)))
 
 returns-5 : tie.Need-returns-5
 returns-5 c =
-    let args = c .before .before .before .before .before .before .before .args in
+    let args = the tie.Start (search) .args in
     sym
-    (form-upper (args .v .now) (args .i) (omega arith) (c .before .before .before .before .if1 .left) (omega arith) (c .before .if3 .left) (c .if4 .left))
+    (form-upper (args .v .now) (args .i) (omega arith) (the tie.Else1 (search) .if1 .left) (omega arith) (c .before .if3 .left) (c .if4 .left))
 
 pub form-at-spec : {M : Type 1} → statement M
 form-at-spec =
     tie.close
-    (tie.spec
-    shared-slice-read-b
-    byte-form-requires
-    returns
-    add-next
-    byte-form-requires-2
-    returns-2
-    shared-slice-read-c
-    byte-form-requires-3
-    returns-3
-    byte-form-requires-4
-    returns-4
-    returns-5)
+    (tie.spec (λ c. search needs) (λ c κs. search needs) returns (λ c. search needs) (λ c κs. search needs) returns-2 shared-slice-read-c
+    (λ c κs. search needs) returns-3 (λ c κs. search needs) returns-4 returns-5)

@@ -1,6 +1,7 @@
 -- `judging::fitting::name_fits` meets its contract. Each answer goes by the test that led to it. Assumes nothing.
 use mathlib.Core.Path.{sym, _∙_}
 use borrow.Author.Needs.{needs}
+use Rattle.format.proofs.Typed.{the}
 use Rattle.judging.proofs.InTurn.{fails, goes-on}
 use Rattle.judging.specs.Fitting.{nameFits}
 use Rattle.judging.proofs.Passing.{empty-name, name-light}
@@ -9,39 +10,23 @@ use Rattle.judging.proofs.fitting.name_fits.Tie as tie
 
 returns : tie.Need-returns
 returns c =
-    let args = c .before .before .args in
+    let args = the tie.Start (search) .args in
     sym (empty-name (args .kind) (args .name .now) (c .if1 .taken))
-
-is-light-requires : tie.Need-is-light-requires
-is-light-requires c κs = search needs
 
 returns-2 : tie.Need-returns-2
 returns-2 c =
-    let args = c .before .before .before .before .args in
-    sym (name-light (args .kind) (args .name .now) (sym (c .before .is-light .ensures) ∙ c .if2 .taken) (c .before .before .if1 .left))
-
-name-passes-requires : tie.Need-name-passes-requires
-name-passes-requires c κs = search needs
+    let args = the tie.Start (search) .args in
+    sym (name-light (args .kind) (args .name .now) (sym (c .before .is-light .ensures) ∙ c .if2 .taken) (the tie.Else1 (search) .if1 .left))
 
 returns-3 : tie.Need-returns-3
 unfolding nameFits
 returns-3 c = fails _ _ (c .before .name-passes .ensures) (c .if3 .taken)
 
-is-utf8-requires : tie.Need-is-utf8-requires
-is-utf8-requires c κs = search needs
-
 returns-4 : tie.Need-returns-4
 unfolding nameFits
-returns-4 c = c .is-utf8 .ensures ∙ goes-on _ _ (c .before .before .name-passes .ensures) (c .before .if3 .left)
+returns-4 c = c .is-utf8 .ensures ∙ goes-on _ _ (the tie.After-name-passes (search) .name-passes .ensures) (c .before .if3 .left)
 
 pub name-fits-spec : {M : Type 1} → statement M
 name-fits-spec =
     tie.close
-    (tie.spec
-    returns
-    is-light-requires
-    returns-2
-    name-passes-requires
-    returns-3
-    is-utf8-requires
-    returns-4)
+    (tie.spec returns (λ c κs. search needs) returns-2 (λ c κs. search needs) returns-3 (λ c κs. search needs) returns-4)

@@ -9,21 +9,6 @@ use Rattle.judging.proofs.kinds.name_follows.Tie as tie
 enum-told : tie.Need-enum-told
 enum-told c = search needs
 
-before-requires : tie.Need-before-requires
-before-requires c κs = search needs
-
-enum-told-2 : tie.Need-enum-told-2
-enum-told-2 c = search needs
-
-before-requires-2 : tie.Need-before-requires-2
-before-requires-2 c κs = search needs
-
-enum-told-3 : tie.Need-enum-told-3
-enum-told-3 c = search needs
-
-before-requires-3 : tie.Need-before-requires-3
-before-requires-3 c κs = search needs
-
 returns : tie.Need-returns
 unfolding follows
 returns c = rw (c .before .enum-told .given .1) (ap not (c .before2 .ensures))
@@ -39,13 +24,5 @@ returns-3 c = rw (c .before .enum-told3 .given .1) (c .before4 .ensures)
 pub name-follows-spec : {M : Type 1} → statement M
 name-follows-spec =
     tie.close
-    (tie.spec
-    enum-told
-    before-requires
-    enum-told-2
-    before-requires-2
-    enum-told-3
-    before-requires-3
-    returns
-    returns-2
+    (tie.spec enum-told (λ c κs. search needs) (λ c. search needs) (λ c κs. search needs) (λ c. search needs) (λ c κs. search needs) returns returns-2
     returns-3)

@@ -2,21 +2,16 @@
 use mathlib.Core.Path.{_∙_}
 use borrow.Author.Needs.{needs}
 use borrow.Author.Tests.{not-true, not-false}
+use Rattle.format.proofs.Typed.{the}
 use Rattle.lookup.proofs.TypeAndBody.{no-str, str-is}
 use Rattle.lookup.proofs.accessors.body_as_str.Statement.{statement}
 use Rattle.lookup.proofs.accessors.body_as_str.Tie as tie
 
-body-requires : tie.Need-body-requires
-body-requires c κs = search needs
-
 returns : tie.Need-returns
 returns c = λ o held. no-str o (c .before .body .ensures o held) (not-true _ (c .if1 .taken))
 
-is-utf8-requires : tie.Need-is-utf8-requires
-is-utf8-requires c κs = search needs
-
 returns-2 : tie.Need-returns-2
-returns-2 c = λ o held. c .is-utf8 .ensures ∙ str-is o (c .before .before .body .ensures o held) (not-false _ (c .before .if1 .left))
+returns-2 c = λ o held. c .is-utf8 .ensures ∙ str-is o (the tie.After-body (search) .body .ensures o held) (not-false _ (c .before .if1 .left))
 
 pub body-as-str-spec : {M : Type 1} → statement M
-body-as-str-spec = tie.close (tie.spec body-requires returns is-utf8-requires returns-2)
+body-as-str-spec = tie.close (tie.spec (λ c κs. search needs) returns (λ c κs. search needs) returns-2)

@@ -5,60 +5,47 @@ use native.Mathlib.Omega.{arith}
 use borrow.Author.Needs.{needs}
 use borrow.Author.Tests.{not-true, not-false}
 use Rattle.held.specs.Holding.{headerHolds}
+use Rattle.format.proofs.Typed.{the}
 use Rattle.lookup.proofs.LoneHeader.{no-params, value-within, size-within, params-listed}
 use Rattle.lookup.proofs.alone.params.Statement.{statement}
 use Rattle.lookup.proofs.alone.params.Tie as tie
 
-holds : (c : tie.Else1) → headerHolds (c .before .before .before .args .h) (c .before .before .before .args .store .now) ≡ true
+holds : (c : tie.Else1) → headerHolds (the tie.Start (search) .args .h) (the tie.Start (search) .args .store .now) ≡ true
 holds c = sym (c .before .header-holds .ensures) ∙ not-false _ (c .if1 .left)
-
-header-holds-requires : tie.Need-header-holds-requires
-header-holds-requires c κs = search needs
-
-slice-aggregate-result : tie.Need-slice-aggregate-result
-slice-aggregate-result c = search needs
 
 returns : tie.Need-returns
 returns c =
-    let called = c .before .before in
-    let args = called .before .before .args in
+    let called : tie.After-header-holds = search in
+    let args = the tie.Start (search) .args in
     no-params (args .h) (args .store .now) (sym (called .header-holds .ensures) ∙ not-true _ (c .before .if1 .taken))
 
 add-from : tie.Need-add-from
 add-from c =
-    let args = c .before .before .before .before .args in
-    omega (arith, value-within (args .h) (args .store .now) (holds (c .before)), size-within (args .h) (args .store .now) (holds (c .before)))
+    let args = the tie.Start (search) .args in
+    omega (arith, value-within (args .h) (args .store .now) (holds (search)), size-within (args .h) (args .store .now) (holds (search)))
 
 sub-result : tie.Need-sub-result
 sub-result c =
-    let args = c .before .before .before .before .args in
-    omega (arith, value-within (args .h) (args .store .now) (holds (c .before)))
+    let args = the tie.Start (search) .args in
+    omega (arith, value-within (args .h) (args .store .now) (holds (search)))
 
 part-result-start : tie.Need-part-result-start
 part-result-start c =
-    let args = c .before .before .before .before .args in
-    omega (arith, value-within (args .h) (args .store .now) (holds (c .before)))
+    let args = the tie.Start (search) .args in
+    omega (arith, value-within (args .h) (args .store .now) (holds (search)))
 
 part-result-end : tie.Need-part-result-end
 part-result-end c =
-    let args = c .before .before .before .before .args in
-    omega (arith, size-within (args .h) (args .store .now) (holds (c .before)))
+    let args = the tie.Start (search) .args in
+    omega (arith, size-within (args .h) (args .store .now) (holds (search)))
 
 returns-2 : tie.Need-returns-2
 returns-2 c =
-    let passed = c .before .before in
-    let args = passed .before .before .before .args in
+    let passed : tie.Else1 = search in
+    let args = the tie.Start (search) .args in
     params-listed (args .h) (args .store .now) (holds passed)
 
 pub params-spec : {M : Type 1} → statement M
 params-spec =
     tie.close
-    (tie.spec
-    header-holds-requires
-    slice-aggregate-result
-    returns
-    add-from
-    sub-result
-    part-result-start
-    part-result-end
-    returns-2)
+    (tie.spec (λ c κs. search needs) (λ c. search needs) returns add-from sub-result part-result-start part-result-end returns-2)

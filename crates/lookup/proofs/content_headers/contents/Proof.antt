@@ -6,59 +6,39 @@ use lib.ListN.{length}
 use borrow.Author.Needs.{needs}
 use borrow.Author.Tests.{not-true, not-false}
 use Rattle.held.proofs.Cases.{used-within}
+use Rattle.format.proofs.Typed.{the}
 use Rattle.lookup.proofs.ContentsHeld.{no-contents, contents-listed}
 use Rattle.lookup.proofs.content_headers.contents.Statement.{statement}
 use Rattle.lookup.proofs.content_headers.contents.Tie as tie
 
 within : (c : tie.Else1)
-    → 256 + (c .before .before .before .args .m .headerlen + c .before .before .before .args .m .contentlen) ≤ length (c .before .before .before .args .head .now)
+    → 256 + (the tie.Start (search) .args .m .headerlen + the tie.Start (search) .args .m .contentlen) ≤ length (the tie.Start (search) .args .head .now)
 within c =
-    let args = c .before .before .before .args in
+    let args = the tie.Start (search) .args in
     used-within (args .m) (args .head .now) (sym (c .before .message-holds .ensures) ∙ not-false _ (c .if1 .left))
-
-message-holds-requires : tie.Need-message-holds-requires
-message-holds-requires c κs = search needs
-
-slice-aggregate-result : tie.Need-slice-aggregate-result
-slice-aggregate-result c = search needs
 
 returns : tie.Need-returns
 returns c =
-    let called = c .before .before in
-    let args = called .before .before .args in
+    let called : tie.After-message-holds = search in
+    let args = the tie.Start (search) .args in
     no-contents (args .m) (args .head .now) (sym (called .message-holds .ensures) ∙ not-true _ (c .before .if1 .taken))
 
 add-from : tie.Need-add-from
-add-from c = omega (arith, within (c .before))
+add-from c = omega (arith, within (search))
 
 add-to : tie.Need-add-to
-add-to c = omega (arith, within (c .before .before))
-
-sub-result : tie.Need-sub-result
-sub-result c = search needs
-
-part-result-start : tie.Need-part-result-start
-part-result-start c = search needs
+add-to c = omega (arith, within (search))
 
 part-result-end : tie.Need-part-result-end
-part-result-end c = omega (arith, within (c .before .before))
+part-result-end c = omega (arith, within (search))
 
 returns-2 : tie.Need-returns-2
 returns-2 c =
-    let passed = c .before .before .before in
-    let args = passed .before .before .before .args in
+    let passed : tie.Else1 = search in
+    let args = the tie.Start (search) .args in
     contents-listed (args .m) (args .head .now) (sym (passed .before .message-holds .ensures) ∙ not-false _ (passed .if1 .left))
 
 pub contents-spec : {M : Type 1} → statement M
 contents-spec =
     tie.close
-    (tie.spec
-    message-holds-requires
-    slice-aggregate-result
-    returns
-    add-from
-    add-to
-    sub-result
-    part-result-start
-    part-result-end
-    returns-2)
+    (tie.spec (λ c κs. search needs) (λ c. search needs) returns add-from add-to (λ c. search needs) (λ c. search needs) part-result-end returns-2)

@@ -2,24 +2,22 @@
 use mathlib.Core.Path.{sym, _∙_}
 use borrow.Author.Needs.{needs}
 use borrow.Author.Tests.{not-true, not-false}
+use Rattle.format.proofs.Typed.{the}
 use Rattle.lookup.proofs.Counting.{none-contents, contents-counted}
 use Rattle.lookup.proofs.counts.count_contents.Statement.{statement}
 use Rattle.lookup.proofs.counts.count_contents.Tie as tie
 
-message-holds-requires : tie.Need-message-holds-requires
-message-holds-requires c κs = search needs
-
 returns : tie.Need-returns
 returns c =
-    let called = c .before in
-    let args = called .before .before .args in
+    let called : tie.After-message-holds = search in
+    let args = the tie.Start (search) .args in
     none-contents (args .m) (args .head .now) (sym (called .message-holds .ensures) ∙ not-true _ (c .if1 .taken))
 
 returns-2 : tie.Need-returns-2
 returns-2 c =
-    let called = c .before in
-    let args = called .before .before .args in
+    let called : tie.After-message-holds = search in
+    let args = the tie.Start (search) .args in
     contents-counted (args .m) (args .head .now) (sym (called .message-holds .ensures) ∙ not-false _ (c .if1 .left))
 
 pub count-contents-spec : {M : Type 1} → statement M
-count-contents-spec = tie.close (tie.spec message-holds-requires returns returns-2)
+count-contents-spec = tie.close (tie.spec (λ c κs. search needs) returns returns-2)

@@ -6,6 +6,7 @@ use native.Mathlib.Omega.{arith}
 use lib.ListN.{length, drop, length-map}
 use borrow.Author.Needs.{needs}
 use Rattle.format.specs.Bytes.{begins, lower, sameLetters}
+use Rattle.format.proofs.Typed.{the}
 use Rattle.octets.proofs.Comparing.{sameLetters-same, same-begins, same-lengths, begins-step, begins-differs, begins-end, lower-at}
 use Rattle.octets.proofs.compare.same_letters.Statement.{statement}
 use Rattle.octets.proofs.compare.same_letters.Tie as tie
@@ -18,33 +19,24 @@ abbrev μ-loop : tie.MeasureT-loop
 
 returns : tie.Need-returns Inv-loop μ-loop
 returns c =
-    let a = c .before .before .before .args .a .now in
-    let b = c .before .before .before .args .b .now in
+    let a = the (tie.Start Inv-loop μ-loop) (search) .args .a .now in
+    let b = the (tie.Start Inv-loop μ-loop) (search) .args .b .now in
     sym (sameLetters-same a b ∙ same-lengths (map lower a) (map lower b) (simp length-map (c .if1 .taken)))
 
 loop-holds : tie.Need-loop-holds Inv-loop μ-loop
 loop-holds c =
-    let a = c .before .before .before .args .a .now in
-    let b = c .before .before .before .args .b .now in
+    let a = the (tie.Start Inv-loop μ-loop) (search) .args .a .now in
+    let b = the (tie.Start Inv-loop μ-loop) (search) .args .b .now in
     (omega arith, sameLetters-same a b ∙ same-begins (map lower a) (map lower b) (simp length-map (c .if1 .left)))
-
-shared-slice-read-lower : tie.Need-shared-slice-read-lower Inv-loop μ-loop
-shared-slice-read-lower c = search needs
-
-lower-requires : tie.Need-lower-requires Inv-loop μ-loop
-lower-requires c κs = search needs
 
 shared-slice-read-lower-2 : tie.Need-shared-slice-read-lower-2 Inv-loop μ-loop
 shared-slice-read-lower-2 c = omega arith
 
-lower-requires-2 : tie.Need-lower-requires-2 Inv-loop μ-loop
-lower-requires-2 c κs = search needs
-
 returns-2 : tie.Need-returns-2 Inv-loop μ-loop
 returns-2 c =
-    let at-loop = c .before .before .before .before .before .before in
-    let a = at-loop .before .before .before .before .args .a .now in
-    let b = at-loop .before .before .before .before .args .b .now in
+    let at-loop : tie.At-loop Inv-loop μ-loop = search in
+    let a = the (tie.Start Inv-loop μ-loop) (search) .args .a .now in
+    let b = the (tie.Start Inv-loop μ-loop) (search) .args .b .now in
     let i = at-loop .loop .i in
     sym
     (at-loop .loop .inv .1
@@ -55,46 +47,28 @@ returns-2 c =
     i
     (simp length-map (omega arith))
     (simp length-map (omega arith))
-    (λ e. c .if2 .taken (c .before .before .before .lower .ensures ∙ sym (lower-at a i) ∙ sym e ∙ lower-at b i ∙ sym (c .before .lower2 .ensures))))
-
-add-i : tie.Need-add-i Inv-loop μ-loop
-add-i c = search needs
-
-loop-less : tie.Need-loop-less Inv-loop μ-loop
-loop-less c = search needs
+    (λ e. c .if2 .taken (the (tie.After-lower Inv-loop μ-loop) (search) .lower .ensures ∙ sym (lower-at a i) ∙ sym e ∙ lower-at b i ∙ sym (c .before .lower2 .ensures))))
 
 loop-again : tie.Need-loop-again Inv-loop μ-loop
 loop-again c =
-    let at-loop = c .before .before .before .before .before .before in
-    let a = at-loop .before .before .before .before .args .a .now in
-    let b = at-loop .before .before .before .before .args .b .now in
+    let at-loop : tie.At-loop Inv-loop μ-loop = search in
+    let a = the (tie.Start Inv-loop μ-loop) (search) .args .a .now in
+    let b = the (tie.Start Inv-loop μ-loop) (search) .args .b .now in
     let i = at-loop .loop .i in (
       omega arith,
       at-loop .loop .inv .1
-          ∙ begins-step (map lower a) (map lower b) i i (simp length-map (omega arith)) (simp length-map (omega arith)) (lower-at b i ∙ sym (c .before .lower2 .ensures) ∙ sym (c .if2 .left) ∙ c .before .before .before .lower .ensures ∙ sym (lower-at a i)),
+          ∙ begins-step (map lower a) (map lower b) i i (simp length-map (omega arith)) (simp length-map (omega arith)) (lower-at b i ∙ sym (c .before .lower2 .ensures) ∙ sym (c .if2 .left) ∙ the (tie.After-lower Inv-loop μ-loop) (search) .lower .ensures ∙ sym (lower-at a i)),
     )
 
 returns-3 : tie.Need-returns-3 Inv-loop μ-loop
 returns-3 c =
-    let at-loop = c .before in
-    let args = at-loop .before .before .before .before .args in
+    let at-loop : tie.At-loop Inv-loop μ-loop = search in
+    let args = the (tie.Start Inv-loop μ-loop) (search) .args in
     let i = at-loop .loop .i in
     sym (at-loop .loop .inv .1 ∙ begins-end (map lower (args .a .now)) (drop i (map lower (args .b .now))) i (simp length-map (omega arith)))
 
 pub same-letters-spec : {M : Type 1} → statement M
 same-letters-spec =
     tie.close
-    (tie.spec
-    Inv-loop
-    μ-loop
-    returns
-    loop-holds
-    shared-slice-read-lower
-    lower-requires
-    shared-slice-read-lower-2
-    lower-requires-2
-    returns-2
-    add-i
-    loop-less
-    loop-again
-    returns-3)
+    (tie.spec Inv-loop μ-loop returns loop-holds (λ c. search needs) (λ c κs. search needs) shared-slice-read-lower-2 (λ c κs. search needs) returns-2
+    (λ c. search needs) (λ c. search needs) loop-again returns-3)

@@ -8,6 +8,7 @@ use native.Mathlib.Omega.{arith}
 use lib.ListN.{length, drop, length-map, length-drop}
 use borrow.Author.Needs.{needs}
 use Rattle.format.specs.Bytes.{begins, occurs, lower}
+use Rattle.format.proofs.Typed.{the}
 use Rattle.octets.proofs.Comparing.{begins-step, begins-differs, begins-end, occurs-end, occurs-short, occurs-here, occurs-later, lower-at}
 use Rattle.octets.proofs.compare.says.Statement.{statement}
 use Rattle.octets.proofs.compare.says.Tie as tie
@@ -28,9 +29,6 @@ abbrev μ-places : tie.MeasureT-places
 places-holds : tie.Need-places-holds Inv-loop μ-loop Inv-places μ-places
 places-holds c = (omega arith, refl)
 
-sub-if2 : tie.Need-sub-if2 Inv-loop μ-loop Inv-places μ-places
-sub-if2 c = search needs
-
 loop-holds : tie.Need-loop-holds Inv-loop μ-loop Inv-places μ-places
 loop-holds c = (omega arith, simp add-zero refl)
 
@@ -40,12 +38,6 @@ add-lower c = omega arith
 shared-slice-read-lower : tie.Need-shared-slice-read-lower Inv-loop μ-loop Inv-places μ-places
 shared-slice-read-lower c = omega arith
 
-lower-requires : tie.Need-lower-requires Inv-loop μ-loop Inv-places μ-places
-lower-requires c κs = search needs
-
-shared-slice-read-if4 : tie.Need-shared-slice-read-if4 Inv-loop μ-loop Inv-places μ-places
-shared-slice-read-if4 c = search needs
-
 add-j : tie.Need-add-j Inv-loop μ-loop Inv-places μ-places
 add-j c = omega arith
 
@@ -54,15 +46,15 @@ loop-less c = omega arith
 
 loop-again : tie.Need-loop-again Inv-loop μ-loop Inv-places μ-places
 loop-again c =
-    let at-loop = c .before .before .before .before .before in
-    let at-places = at-loop .before .before .before in
-    let text = at-places .before .before .before .args .text .now in
-    let pattern = at-places .before .before .before .args .pattern .now in
+    let at-loop : tie.At-loop Inv-loop μ-loop Inv-places μ-places = search in
+    let at-places : tie.At-places Inv-loop μ-loop Inv-places μ-places = search in
+    let text = the (tie.Start Inv-loop μ-loop Inv-places μ-places) (search) .args .text .now in
+    let pattern = the (tie.Start Inv-loop μ-loop Inv-places μ-places) (search) .args .pattern .now in
     let at = at-places .places .at in
     let j = at-loop .loop .j in (
       omega arith,
       at-loop .loop .inv .1
-          ∙ begins-step pattern (map lower text) j (at + j) (omega arith) (simp length-map (omega arith)) (lower-at text (at + j) ∙ sym (c .before .before .lower .ensures) ∙ c .if4 .left)
+          ∙ begins-step pattern (map lower text) j (at + j) (omega arith) (simp length-map (omega arith)) (lower-at text (at + j) ∙ sym (the (tie.After-lower Inv-loop μ-loop Inv-places μ-places) (search) .lower .ensures) ∙ c .if4 .left)
           ∙ ap (λ (k : ℕ). begins (drop (j + 1) pattern) (drop k (map lower text))) (add-assoc at j 1),
     )
 
@@ -74,37 +66,37 @@ places-less c = omega arith
 
 places-again : tie.Need-places-again Inv-loop μ-loop Inv-places μ-places
 places-again c =
-    let at-loop = c .before .before .before .before .before in
-    let at-places = at-loop .before .before .before in
-    let text = at-places .before .before .before .args .text .now in
-    let pattern = at-places .before .before .before .args .pattern .now in
+    let at-loop : tie.At-loop Inv-loop μ-loop Inv-places μ-places = search in
+    let at-places : tie.At-places Inv-loop μ-loop Inv-places μ-places = search in
+    let text = the (tie.Start Inv-loop μ-loop Inv-places μ-places) (search) .args .text .now in
+    let pattern = the (tie.Start Inv-loop μ-loop Inv-places μ-places) (search) .args .pattern .now in
     let at = at-places .places .at in
     let j = at-loop .loop .j in (
       omega arith,
       at-places .places .inv .1
           ∙ occurs-later pattern (map lower text) at (simp length-map (omega arith))
           (at-loop .loop .inv .1
-          ∙ begins-differs pattern (map lower text) j (at + j) (omega arith) (simp length-map (omega arith)) (λ e. c .if4 .taken (c .before .before .lower .ensures ∙ sym (lower-at text (at + j)) ∙ e))),
+          ∙ begins-differs pattern (map lower text) j (at + j) (omega arith) (simp length-map (omega arith)) (λ e. c .if4 .taken (the (tie.After-lower Inv-loop μ-loop Inv-places μ-places) (search) .lower .ensures ∙ sym (lower-at text (at + j)) ∙ e))),
     )
 
 returns : tie.Need-returns Inv-loop μ-loop Inv-places μ-places
 returns c =
-    let at-places = c .before in
-    let args = at-places .before .before .before .args in
+    let at-places : tie.At-places Inv-loop μ-loop Inv-places μ-places = search in
+    let args = the (tie.Start Inv-loop μ-loop Inv-places μ-places) (search) .args in
     sym (at-places .places .inv .1 ∙ occurs-end (args .pattern .now) (map lower (args .text .now)) (at-places .places .at) (simp length-map (omega arith)))
 
 returns-2 : tie.Need-returns-2 Inv-loop μ-loop Inv-places μ-places
 returns-2 c =
-    let at-places = c .before .before in
-    let args = at-places .before .before .before .args in
+    let at-places : tie.At-places Inv-loop μ-loop Inv-places μ-places = search in
+    let args = the (tie.Start Inv-loop μ-loop Inv-places μ-places) (search) .args in
     sym (at-places .places .inv .1 ∙ occurs-short (args .pattern .now) (drop (at-places .places .at) (map lower (args .text .now))) (simp (length-drop, length-map) (omega arith)))
 
 returns-3 : tie.Need-returns-3 Inv-loop μ-loop Inv-places μ-places
 returns-3 c =
-    let at-loop = c .before in
-    let at-places = at-loop .before .before .before in
-    let text = at-places .before .before .before .args .text .now in
-    let pattern = at-places .before .before .before .args .pattern .now in
+    let at-loop : tie.At-loop Inv-loop μ-loop Inv-places μ-places = search in
+    let at-places : tie.At-places Inv-loop μ-loop Inv-places μ-places = search in
+    let text = the (tie.Start Inv-loop μ-loop Inv-places μ-places) (search) .args .text .now in
+    let pattern = the (tie.Start Inv-loop μ-loop Inv-places μ-places) (search) .args .pattern .now in
     let at = at-places .places .at in
     let j = at-loop .loop .j in
     sym
@@ -115,24 +107,5 @@ returns-3 c =
 pub says-spec : {M : Type 1} → statement M
 says-spec =
     tie.close
-    (tie.spec
-    Inv-loop
-    μ-loop
-    Inv-places
-    μ-places
-    places-holds
-    sub-if2
-    loop-holds
-    add-lower
-    shared-slice-read-lower
-    lower-requires
-    shared-slice-read-if4
-    add-j
-    loop-less
-    loop-again
-    add-at
-    places-less
-    places-again
-    returns
-    returns-2
-    returns-3)
+    (tie.spec Inv-loop μ-loop Inv-places μ-places places-holds (λ c. search needs) loop-holds add-lower shared-slice-read-lower (λ c κs. search needs)
+    (λ c. search needs) add-j loop-less loop-again add-at places-less places-again returns returns-2 returns-3)

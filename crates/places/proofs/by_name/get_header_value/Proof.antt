@@ -8,30 +8,28 @@ use Rattle.format.specs.Lending.{headLent}
 use Rattle.format.specs.LookingUp.{nthHeader, getHeaderValue}
 use Rattle.entries.specs.Stored.{nameLength}
 use Rattle.held.proofs.Held.{held-total}
+use Rattle.format.proofs.Typed.{the}
 use Rattle.places.specs.Named.{headerPlace}
 use Rattle.places.proofs.Headers.{spot-size, spot-no-value, spot-value}
 use Rattle.places.proofs.by_name.get_header_value.Statement.{statement}
 use Rattle.places.proofs.by_name.get_header_value.Tie as tie
 
-nth-header-requires : tie.Need-nth-header-requires
-nth-header-requires c κs = search needs
-
 returns : tie.Need-returns
 unfolding getHeaderValue
 returns c =
-    let called = c .before .before in
-    let args = called .before .before .before .args in
+    let called : tie.After-nth-header = search in
+    let args = the tie.Start (search) .args in
     λ o held. spot-no-value (args .head .now) _ (called .nth-header .result) (nthHeader o (args .name .now) (args .n)) (called .nth-header .ensures o held) (not-true _ (c .if1 .taken))
 
 abbrev called : tie.Else1 → tie.After-nth-header
-called c = c .before .before
+called c = search
 
 -- the header is within the store
 within : (c : tie.Else1)
-    → called c .nth-header .result .at + 16 + nameLength (drop (called c .nth-header .result .at) (called c .before .before .before .args .head .now))
-    ≤ length (called c .before .before .before .args .head .now)
+    → called c .nth-header .result .at + 16 + nameLength (drop (called c .nth-header .result .at) (the tie.Start (search) .args .head .now))
+    ≤ length (the tie.Start (search) .args .head .now)
 within c =
-    let args = called c .before .before .before .args in
+    let args = the tie.Start (search) .args in
     let held = held-total (headLent (args .m) (args .head .now)) in
     omega (
       arith,
@@ -43,19 +41,19 @@ name-len-requires : tie.Need-name-len-requires
 name-len-requires c κs = omega (arith, within c)
 
 add-t9 : tie.Need-add-t9
-add-t9 c = omega (arith, within (c .before), c .name-len .ensures .0)
+add-t9 c = omega (arith, within (search), c .name-len .ensures .0)
 
 add-t10 : tie.Need-add-t10
-add-t10 c = omega (arith, within (c .before), c .name-len .ensures .0)
+add-t10 c = omega (arith, within (search), c .name-len .ensures .0)
 
 value-len-requires : tie.Need-value-len-requires
-value-len-requires c κs = omega (arith, within (c .before))
+value-len-requires c κs = omega (arith, within (search))
 
 returns-2 : tie.Need-returns-2
 unfolding getHeaderValue
 returns-2 c =
-    let found = c .before .before in
-    let args = called found .before .before .before .args in
+    let found : tie.Else1 = search in
+    let args = the tie.Start (search) .args in
     λ o held.
     spot-value (args .head .now) _ (called found .nth-header .result) (nthHeader o (args .name .now) (args .n)) (called found .nth-header .ensures o held) (not-false _ (found .if1 .left)) _ _
     (c .before .name-len .ensures .0) (c .value-len .ensures .0)
@@ -63,11 +61,4 @@ returns-2 c =
 pub get-header-value-spec : {M : Type 1} → statement M
 get-header-value-spec =
     tie.close
-    (tie.spec
-    nth-header-requires
-    returns
-    name-len-requires
-    add-t9
-    add-t10
-    value-len-requires
-    returns-2)
+    (tie.spec (λ c κs. search needs) returns name-len-requires add-t9 add-t10 value-len-requires returns-2)

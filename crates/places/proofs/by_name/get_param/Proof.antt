@@ -8,32 +8,30 @@ use Rattle.format.specs.Lending.{headLent}
 use Rattle.format.specs.LookingUp.{nthHeader, getParam}
 use Rattle.entries.specs.Stored.{nameLength, valueLength, tailLength}
 use Rattle.held.proofs.Held.{held-total}
+use Rattle.format.proofs.Typed.{the}
 use Rattle.places.specs.Named.{headerPlace}
 use Rattle.places.proofs.Headers.{spot-size, spot-shaped, spot-no-param, spot-param}
 use Rattle.places.proofs.by_name.get_param.Statement.{statement}
 use Rattle.places.proofs.by_name.get_param.Tie as tie
 
-nth-header-requires : tie.Need-nth-header-requires
-nth-header-requires c κs = search needs
-
 returns : tie.Need-returns
 unfolding getParam
 returns c =
-    let called = c .before .before in
-    let args = called .before .before .before .args in
+    let called : tie.After-nth-header = search in
+    let args = the tie.Start (search) .args in
     λ o held. spot-no-param (args .head .now) _ (called .nth-header .result) (args .n) (nthHeader o (args .name .now) (args .k)) (called .nth-header .ensures o held) (not-true _ (c .if1 .taken))
 
 abbrev called : tie.Else1 → tie.After-nth-header
-called c = c .before .before
+called c = search
 
 -- the header is within the store
 within : (c : tie.Else1)
-    → called c .nth-header .result .at + (16 + (nameLength (drop (called c .nth-header .result .at) (called c .before .before .before .args .head .now))
-    + (valueLength (drop (called c .nth-header .result .at) (called c .before .before .before .args .head .now))
-    + tailLength (drop (called c .nth-header .result .at) (called c .before .before .before .args .head .now)))))
-    ≤ length (called c .before .before .before .args .head .now)
+    → called c .nth-header .result .at + (16 + (nameLength (drop (called c .nth-header .result .at) (the tie.Start (search) .args .head .now))
+    + (valueLength (drop (called c .nth-header .result .at) (the tie.Start (search) .args .head .now))
+    + tailLength (drop (called c .nth-header .result .at) (the tie.Start (search) .args .head .now)))))
+    ≤ length (the tie.Start (search) .args .head .now)
 within c =
-    let args = called c .before .before .before .args in
+    let args = the tie.Start (search) .args in
     let held = held-total (headLent (args .m) (args .head .now)) in
     spot-size (args .head .now) (headerPlace (held .0) (args .name .now) (args .k)) (called c .nth-header .result) (nthHeader (held .0) (args .name .now) (args .k)) (called c .nth-header .ensures (held .0) (held .1))
     (not-false _ (c .if1 .left))
@@ -42,33 +40,33 @@ name-len-requires : tie.Need-name-len-requires
 name-len-requires c κs = omega (arith, within c)
 
 value-len-requires : tie.Need-value-len-requires
-value-len-requires c κs = omega (arith, within (c .before))
+value-len-requires c κs = omega (arith, within (search))
 
 add-from : tie.Need-add-from
-add-from c = omega (arith, within (c .before .before), c .before .name-len .ensures .0, c .value-len .ensures .0)
+add-from c = omega (arith, within (search), c .before .name-len .ensures .0, c .value-len .ensures .0)
 
 add-from-2 : tie.Need-add-from-2
-add-from-2 c = omega (arith, within (c .before .before), c .before .name-len .ensures .0, c .value-len .ensures .0)
+add-from-2 c = omega (arith, within (search), c .before .name-len .ensures .0, c .value-len .ensures .0)
 
 add-from-3 : tie.Need-add-from-3
-add-from-3 c = omega (arith, within (c .before .before), c .before .name-len .ensures .0, c .value-len .ensures .0)
+add-from-3 c = omega (arith, within (search), c .before .name-len .ensures .0, c .value-len .ensures .0)
 
 tail-len-requires : tie.Need-tail-len-requires
-tail-len-requires c κs = omega (arith, within (c .before .before))
+tail-len-requires c κs = omega (arith, within (search))
 
 add-to : tie.Need-add-to
-add-to c = omega (arith, within (c .before .before .before), c .before .before .name-len .ensures .0, c .before .value-len .ensures .0, c .tail-len .ensures .0)
+add-to c = omega (arith, within (search), the tie.After-name-len (search) .name-len .ensures .0, c .before .value-len .ensures .0, c .tail-len .ensures .0)
 
 param-count-requires : tie.Need-param-count-requires
-param-count-requires c κs = omega (arith, within (c .before .before .before))
+param-count-requires c κs = omega (arith, within (search))
 
 nth-pair-requires : tie.Need-nth-pair-requires
 nth-pair-requires c κs =
-    let tailed = c .before in
-    let valued = tailed .before in
-    let named = valued .before in
-    let found = named .before in
-    let args = called found .before .before .before .args in
+    let tailed : tie.After-tail-len = search in
+    let valued : tie.After-value-len = search in
+    let named : tie.After-name-len = search in
+    let found : tie.Else1 = search in
+    let args = the tie.Start (search) .args in
     let held = held-total (headLent (args .m) (args .head .now)) in
     let n = named .name-len .ensures .0 in
     let v = valued .value-len .ensures .0 in
@@ -83,12 +81,12 @@ nth-pair-requires c κs =
 returns-2 : tie.Need-returns-2
 unfolding getParam
 returns-2 c =
-    let counted = c .before in
-    let tailed = counted .before in
-    let valued = tailed .before in
-    let named = valued .before in
-    let found = named .before in
-    let args = called found .before .before .before .args in
+    let counted : tie.After-param-count = search in
+    let tailed : tie.After-tail-len = search in
+    let valued : tie.After-value-len = search in
+    let named : tie.After-name-len = search in
+    let found : tie.Else1 = search in
+    let args = the tie.Start (search) .args in
     λ o held.
     spot-param (args .head .now) _ (called found .nth-header .result) (args .n) (nthHeader o (args .name .now) (args .k)) (called found .nth-header .ensures o held) (not-false _ (found .if1 .left))
     (c .nth-pair .result) _ _ _ _ (named .name-len .ensures .0) (valued .value-len .ensures .0) (tailed .tail-len .ensures .0) (counted .param-count .ensures .0) (c .nth-pair .ensures)
@@ -96,16 +94,5 @@ returns-2 c =
 pub get-param-spec : {M : Type 1} → statement M
 get-param-spec =
     tie.close
-    (tie.spec
-    nth-header-requires
-    returns
-    name-len-requires
-    value-len-requires
-    add-from
-    add-from-2
-    add-from-3
-    tail-len-requires
-    add-to
-    param-count-requires
-    nth-pair-requires
-    returns-2)
+    (tie.spec (λ c κs. search needs) returns name-len-requires value-len-requires add-from add-from-2 add-from-3 tail-len-requires add-to
+    param-count-requires nth-pair-requires returns-2)

@@ -9,110 +9,86 @@ use borrow.Author.Tests.{not-true, not-false}
 use Rattle.format.specs.Characters.{isUtf8}
 use Rattle.held.specs.Holding.{messageHolds}
 use Rattle.named.proofs.Grouping.{named-within}
+use Rattle.format.proofs.Typed.{the}
 use Rattle.places.proofs.Entries.{passed-within}
 use Rattle.places.proofs.NamedSpots.{no-message, no-name, group-shaped, too-few, nth-found}
 use Rattle.places.proofs.by_name.nth_header.Statement.{statement}
 use Rattle.places.proofs.by_name.nth_header.Tie as tie
 
 abbrev start : tie.Else1 → tie.Start
-start c = c .before .before .before .before
+start c = search
 
 -- a message is held, and the name is UTF-8
 holds : (c : tie.Else1) → messageHolds (start c .args .m) (start c .args .head .now) ≡ true
 holds c = sym (c .before .message-holds .ensures) ∙ not-false _ (c .if1 .left)
 
-utf8 : (c : tie.Else2) → isUtf8 (start (c .before .before) .args .name .now) ≡ true
+utf8 : (c : tie.Else2) → isUtf8 (start (search) .args .name .now) ≡ true
 utf8 c = sym (c .before .is-utf8 .ensures) ∙ not-false _ (c .if2 .left)
 
 abbrev started : tie.After-headers-of → tie.Start
-started c = start (c .before .before .before)
+started c = start (search)
 
 within : (c : tie.After-headers-of) → 256 + (c .headers-of .result .at + c .headers-of .result .size) ≤ length (started c .args .head .now)
 within c =
     let args = started c .args in
-    named-within (args .m) (args .head .now) (args .name .now) _ _ _ (holds (c .before .before .before)) (c .headers-of .ensures)
-
-message-holds-requires : tie.Need-message-holds-requires
-message-holds-requires c κs = search needs
+    named-within (args .m) (args .head .now) (args .name .now) _ _ _ (holds (search)) (c .headers-of .ensures)
 
 returns : tie.Need-returns
 returns c =
-    let args = c .before .before .before .before .args in
+    let args = the tie.Start (search) .args in
     no-message (args .m) (args .head .now) (args .name .now) (args .n) (sym (c .before .message-holds .ensures) ∙ not-true _ (c .if1 .taken))
-
-is-utf8-requires : tie.Need-is-utf8-requires
-is-utf8-requires c κs = search needs
 
 returns-2 : tie.Need-returns-2
 returns-2 c =
-    let args = start (c .before .before) .args in
+    let args = start (search) .args in
     λ o _. no-name (args .m) (args .head .now) (args .name .now) (args .n) (sym (c .before .is-utf8 .ensures) ∙ not-true _ (c .if2 .taken)) o
 
 headers-of-requires : tie.Need-headers-of-requires
-headers-of-requires c κs = holds (c .before .before)
+headers-of-requires c κs = holds (search)
 
 returns-3 : tie.Need-returns-3
 returns-3 c =
-    let g = c .before .before in
+    let g : tie.After-headers-of = search in
     let args = started g .args in
-    too-few (args .m) (args .head .now) (args .name .now) (args .n) _ _ _ (holds (g .before .before .before)) (utf8 (g .before)) (g .headers-of .ensures) (omega arith)
+    too-few (args .m) (args .head .now) (args .name .now) (args .n) _ _ _ (holds (search)) (utf8 (search)) (g .headers-of .ensures) (omega arith)
 
 add-from : tie.Need-add-from
-add-from c = omega (arith, within (c .before .before .before))
+add-from c = omega (arith, within (search))
 
 add-to : tie.Need-add-to
-add-to c = omega (arith, within (c .before .before .before .before))
-
-sub-pass-first : tie.Need-sub-pass-first
-sub-pass-first c = search needs
-
-part-pass-first-start : tie.Need-part-pass-first-start
-part-pass-first-start c = search needs
+add-to c = omega (arith, within (search))
 
 part-pass-first-end : tie.Need-part-pass-first-end
-part-pass-first-end c = omega (arith, within (c .before .before .before .before))
+part-pass-first-end c = omega (arith, within (search))
 
 pass-first-requires : tie.Need-pass-first-requires
 pass-first-requires c κs =
-    let g = c .before .before .before .before .before in
+    let g : tie.After-headers-of = search in
     let args = started g .args in (
-      group-shaped (args .m) (args .head .now) (args .name .now) (args .n) _ _ _ (holds (g .before .before .before)) (utf8 (g .before)) (g .headers-of .ensures),
+      group-shaped (args .m) (args .head .now) (args .name .now) (args .n) _ _ _ (holds (search)) (utf8 (search)) (g .headers-of .ensures),
       omega arith,
     )
 
 add-t15 : tie.Need-add-t15
 add-t15 c =
-    let g = c .before .before .before .before .before .before in
+    let g : tie.After-headers-of = search in
     let args = started g .args in
     omega (
       arith,
       passed-within (args .head .now) (256 + g .headers-of .result .at) (256 + g .headers-of .result .at + g .headers-of .result .size) (g .headers-of .result .many) (args .n) (c .pass-first .result)
           (omega arith) (omega (arith, within g))
-          (group-shaped (args .m) (args .head .now) (args .name .now) (args .n) _ _ _ (holds (g .before .before .before)) (utf8 (g .before)) (g .headers-of .ensures))
+          (group-shaped (args .m) (args .head .now) (args .name .now) (args .n) _ _ _ (holds (search)) (utf8 (search)) (g .headers-of .ensures))
           (omega arith) (c .pass-first .ensures),
     )
 
 returns-4 : tie.Need-returns-4
 returns-4 c =
-    let g = c .before .before .before .before .before .before in
+    let g : tie.After-headers-of = search in
     let args = started g .args in
-    nth-found (args .m) (args .head .now) (args .name .now) (args .n) _ _ _ (holds (g .before .before .before)) (utf8 (g .before)) (g .headers-of .ensures) (omega arith) _ (c .pass-first .ensures)
+    nth-found (args .m) (args .head .now) (args .name .now) (args .n) _ _ _ (holds (search)) (utf8 (search)) (g .headers-of .ensures) (omega arith) _ (c .pass-first .ensures)
 
 pub nth-header-spec : {M : Type 1} → statement M
 nth-header-spec =
     tie.close
-    (tie.spec
-    message-holds-requires
-    returns
-    is-utf8-requires
-    returns-2
-    headers-of-requires
-    returns-3
-    add-from
-    add-to
-    sub-pass-first
-    part-pass-first-start
-    part-pass-first-end
-    pass-first-requires
-    add-t15
-    returns-4)
+    (tie.spec (λ c κs. search needs) returns (λ c κs. search needs) returns-2 headers-of-requires returns-3 add-from add-to (λ c. search needs)
+    (λ c. search needs) part-pass-first-end pass-first-requires add-t15 returns-4)

@@ -3,32 +3,24 @@ use Prim.Native.Nat.{_+_, _≤_}
 use native.Mathlib.Omega.{arith}
 use lib.ListN.{length}
 use borrow.Author.Needs.{needs}
+use Rattle.format.proofs.Typed.{the}
 use Rattle.places.proofs.Entries.{pair-absent, pair-found, passed-within}
 use Rattle.places.proofs.spots.nth_pair.Statement.{statement}
 use Rattle.places.proofs.spots.nth_pair.Tie as tie
 
 returns : tie.Need-returns
 returns c =
-    let start = c .before .before in
+    let start : tie.Start = search in
     let args = start .args in
     λ es l. pair-absent (args .s .now) (args .from) (args .to) (args .count) (args .n) (start .pre .0) (start .pre .1) es l (omega arith)
 
-sub-pass-first : tie.Need-sub-pass-first
-sub-pass-first c = search needs
-
-part-pass-first-start : tie.Need-part-pass-first-start
-part-pass-first-start c = search needs
-
-part-pass-first-end : tie.Need-part-pass-first-end
-part-pass-first-end c = search needs
-
 pass-first-requires : tie.Need-pass-first-requires
-pass-first-requires c κs = (c .before .before .before .pre .2, omega arith)
+pass-first-requires c κs = (the tie.Start (search) .pre .2, omega arith)
 
 within : (c : tie.After-pass-first)
-    → c .before .before .before .before .args .from + c .pass-first .result + 16 ≤ length (c .before .before .before .before .args .s .now)
+    → the tie.Start (search) .args .from + c .pass-first .result + 16 ≤ length (the tie.Start (search) .args .s .now)
 within c =
-    let start = c .before .before .before .before in
+    let start : tie.Start = search in
     let args = start .args in
     passed-within (args .s .now) (args .from) (args .to) (args .count) (args .n) (c .pass-first .result) (start .pre .0) (start .pre .1) (start .pre .2) (omega arith) (c .pass-first .ensures)
 
@@ -42,12 +34,12 @@ name-len-requires : tie.Need-name-len-requires
 name-len-requires c κs = within c
 
 value-len-requires : tie.Need-value-len-requires
-value-len-requires c κs = within (c .before)
+value-len-requires c κs = within (search)
 
 returns-2 : tie.Need-returns-2
 returns-2 c =
-    let passed = c .before .before in
-    let start = passed .before .before .before .before in
+    let passed : tie.After-pass-first = search in
+    let start : tie.Start = search in
     let args = start .args in
     λ es l.
     pair-found (args .s .now) (args .from) (args .to) (args .count) (args .n) (start .pre .0) (start .pre .1) es l (omega arith) (passed .pass-first .result) _ _ (passed .pass-first .ensures)
@@ -56,14 +48,5 @@ returns-2 c =
 pub nth-pair-spec : {M : Type 1} → statement M
 nth-pair-spec =
     tie.close
-    (tie.spec
-    returns
-    sub-pass-first
-    part-pass-first-start
-    part-pass-first-end
-    pass-first-requires
-    add-at
-    add-t8
-    name-len-requires
-    value-len-requires
-    returns-2)
+    (tie.spec returns (λ c. search needs) (λ c. search needs) (λ c. search needs) pass-first-requires add-at add-t8 name-len-requires
+    value-len-requires returns-2)

@@ -4,27 +4,22 @@ use borrow.Author.Needs.{needs}
 use borrow.Author.Tests.{not-true, not-false}
 use Rattle.format.specs.Bytes.{less-sign}
 use Rattle.octets.proofs.Find.{found-within}
+use Rattle.format.proofs.Typed.{the}
 use Rattle.places.proofs.Signs.{no-address, address-there}
 use Rattle.places.proofs.standing.address.Statement.{statement}
 use Rattle.places.proofs.standing.address.Tie as tie
 
-address-requires : tie.Need-address-requires
-address-requires c κs = search needs
-
 returns : tie.Need-returns
-returns c = no-address (c .before .before .before .before .args .value .now) _ _ (not-true _ (c .if1 .taken)) (c .before .address .ensures)
-
-find-byte-requires : tie.Need-find-byte-requires
-find-byte-requires c κs = search needs
+returns c = no-address (the tie.Start (search) .args .value .now) _ _ (not-true _ (c .if1 .taken)) (c .before .address .ensures)
 
 add-t8 : tie.Need-add-t8
 add-t8 c =
-    let start = c .before .before .before .before .before in
+    let start : tie.Start = search in
     omega (arith, start .good, found-within less-sign (start .args .value .now) (c .find-byte .result) (c .find-byte .ensures))
 
 returns-2 : tie.Need-returns-2
 returns-2 c =
-    address-there (c .before .before .before .before .before .args .value .now) _ (c .find-byte .result) (c .find-byte .ensures) _ (not-false _ (c .before .if1 .left)) (c .before .before .address .ensures)
+    address-there (the tie.Start (search) .args .value .now) _ (c .find-byte .result) (c .find-byte .ensures) _ (not-false _ (c .before .if1 .left)) (the tie.After-address (search) .address .ensures)
 
 pub address-spec : {M : Type 1} → statement M
-address-spec = tie.close (tie.spec address-requires returns find-byte-requires add-t8 returns-2)
+address-spec = tie.close (tie.spec (λ c κs. search needs) returns (λ c κs. search needs) add-t8 returns-2)

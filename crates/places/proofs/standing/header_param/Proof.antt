@@ -5,40 +5,38 @@ use native.Mathlib.Omega.{arith}
 use Rattle.held.specs.Holding.{headerHolds}
 use borrow.Author.Needs.{needs}
 use borrow.Author.Tests.{not-true, not-false}
+use Rattle.format.proofs.Typed.{the}
 use Rattle.places.proofs.There.{no-param, params-within, params-shaped, param-there}
 use Rattle.places.proofs.standing.header_param.Statement.{statement}
 use Rattle.places.proofs.standing.header_param.Tie as tie
 
-holds : (c : tie.Else1) → headerHolds (c .before .before .before .args .h) (c .before .before .before .args .store .now) ≡ true
+holds : (c : tie.Else1) → headerHolds (the tie.Start (search) .args .h) (the tie.Start (search) .args .store .now) ≡ true
 holds c = sym (c .before .header-holds .ensures) ∙ not-false _ (c .if1 .left)
-
-header-holds-requires : tie.Need-header-holds-requires
-header-holds-requires c κs = search needs
 
 returns : tie.Need-returns
 returns c =
-    let called = c .before in
-    let args = called .before .before .args in
+    let called : tie.After-header-holds = search in
+    let args = the tie.Start (search) .args in
     no-param (args .h) (args .store .now) (sym (called .header-holds .ensures) ∙ not-true _ (c .if1 .taken)) (args .n)
 
 add-nth-pair : tie.Need-add-nth-pair
 add-nth-pair c =
-    let args = c .before .before .before .before .args in
-    let within = params-within (args .h) (args .store .now) (holds (c .before)) in
+    let args = the tie.Start (search) .args in
+    let within = params-within (args .h) (args .store .now) (holds (search)) in
     omega (arith, within .0, within .1)
 
 nth-pair-requires : tie.Need-nth-pair-requires
 nth-pair-requires c κs =
-    let args = c .before .before .before .before .args in
-    let held = holds (c .before) in
+    let args = the tie.Start (search) .args in
+    let held = holds (search) in
     let within = params-within (args .h) (args .store .now) held in
     (within .0, within .1, params-shaped (args .h) (args .store .now) held)
 
 returns-2 : tie.Need-returns-2
 returns-2 c =
-    let args = c .before .before .before .before .before .args in
-    param-there (args .h) (args .store .now) (holds (c .before .before)) (args .n) (c .nth-pair .result) (c .nth-pair .ensures)
+    let args = the tie.Start (search) .args in
+    param-there (args .h) (args .store .now) (holds (search)) (args .n) (c .nth-pair .result) (c .nth-pair .ensures)
 
 pub header-param-spec : {M : Type 1} → statement M
 header-param-spec =
-    tie.close (tie.spec header-holds-requires returns add-nth-pair nth-pair-requires returns-2)
+    tie.close (tie.spec (λ c κs. search needs) returns add-nth-pair nth-pair-requires returns-2)

@@ -2,24 +2,22 @@
 use mathlib.Core.Path.{sym, _∙_}
 use borrow.Author.Needs.{needs}
 use borrow.Author.Tests.{not-true, not-false}
+use Rattle.format.proofs.Typed.{the}
 use Rattle.places.proofs.There.{no-value, value-there}
 use Rattle.places.proofs.standing.header_value.Statement.{statement}
 use Rattle.places.proofs.standing.header_value.Tie as tie
 
-header-holds-requires : tie.Need-header-holds-requires
-header-holds-requires c κs = search needs
-
 returns : tie.Need-returns
 returns c =
-    let called = c .before in
-    let args = called .before .before .args in
+    let called : tie.After-header-holds = search in
+    let args = the tie.Start (search) .args in
     no-value (args .h) (args .store .now) (sym (called .header-holds .ensures) ∙ not-true _ (c .if1 .taken))
 
 returns-2 : tie.Need-returns-2
 returns-2 c =
-    let called = c .before in
-    let args = called .before .before .args in
+    let called : tie.After-header-holds = search in
+    let args = the tie.Start (search) .args in
     value-there (args .h) (args .store .now) (sym (called .header-holds .ensures) ∙ not-false _ (c .if1 .left))
 
 pub header-value-spec : {M : Type 1} → statement M
-header-value-spec = tie.close (tie.spec header-holds-requires returns returns-2)
+header-value-spec = tie.close (tie.spec (λ c κs. search needs) returns returns-2)

@@ -5,24 +5,25 @@ use lib.ListN.{length}
 use borrow.Author.Tests.{eq-eqb}
 use Rattle.format.proofs.Characters.Replaced.{replaced-same}
 use Rattle.characters.proofs.Ends.{utf8-tested}
+use Rattle.format.proofs.Typed.{the}
 use Rattle.put_parts.proofs.Lengths.{replaced-length}
 use Rattle.put_parts.proofs.measure.body_len.Statement.{statement}
 use Rattle.put_parts.proofs.measure.body_len.Tie as tie
 
 returns : tie.Need-returns
 returns c =
-    let start = c .before .before in
+    let start : tie.Start = search in
     let b = start .args .body .now in
     let all = c .if1 .taken in
     let same = replaced-same b (sym (utf8-tested b (start .args .end) (start .pre .0)) ∙ eq-eqb (start .args .end) (length b) all) in
     (all ∙ ap length (sym same), omega (arith, all, start .pre .1))
 
 replaced-len-requires : tie.Need-replaced-len-requires
-replaced-len-requires c κs = omega (arith, c .before .before .pre .1)
+replaced-len-requires c κs = omega (arith, the tie.Start (search) .pre .1)
 
 returns-2 : tie.Need-returns-2
 returns-2 c =
-    let start = c .before .before .before in
+    let start : tie.Start = search in
     (c .replaced-len .ensures, omega (arith, c .replaced-len .ensures, replaced-length (start .args .body .now), start .pre .1))
 
 pub body-len-spec : {M : Type 1} → statement M

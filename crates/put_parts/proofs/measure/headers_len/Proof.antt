@@ -8,6 +8,7 @@ use Rattle.format.specs.Bytes.{Bytes, texts}
 use Rattle.format.specs.Writing.{headerLine, ended}
 use Rattle.entries.specs.Stored.{Stored, sizeIn, storedIn}
 use Rattle.judging.specs.Listed.{headerFrom, headersFrom}
+use Rattle.format.proofs.Typed.{the}
 use Rattle.put_parts.proofs.Passing.{left, left-start, left-end, left-next, passing-shaped, passing-numbers, passing-size}
 use Rattle.put_parts.proofs.Headed.{Headed, headed-start, headed-fits, headed-tail, headed-on}
 use Rattle.put_parts.proofs.measure.headers_len.Statement.{statement}
@@ -27,7 +28,7 @@ abbrev μ-loop : tie.MeasureT-loop
 loop-holds : tie.Need-loop-holds Inv-loop μ-loop
 unfolding headersFrom
 loop-holds c =
-    let start = c .before in
+    let start : tie.Start Inv-loop μ-loop = search in
     let s = start .args .s .now in
     let count = start .args .count in
     (headed-start s count (start .pre .0), omega (arith, ap (λ (es : List Stored). length (lines es)) (left-start s count)), omega arith)
@@ -35,7 +36,7 @@ loop-holds c =
 header-len-requires : tie.Need-header-len-requires Inv-loop μ-loop
 header-len-requires c κs =
     let l = c .before .loop in
-    let args = c .before .before .before .args in
+    let args = the (tie.Start Inv-loop μ-loop) (search) .args in
     let s = args .s .now in
     let w = l .inv .0 in (
       passing-shaped s (args .count) (l .at) (l .i) (w .passing) (omega arith),
@@ -45,19 +46,19 @@ header-len-requires c κs =
 
 add-n : tie.Need-add-n Inv-loop μ-loop
 add-n c =
-    let at-loop = c .before .before in
-    omega (arith, at-loop .loop .inv .2, at-loop .before .before .pre .1, c .header-len .ensures .1)
+    let at-loop : tie.At-loop Inv-loop μ-loop = search in
+    omega (arith, at-loop .loop .inv .2, the (tie.Start Inv-loop μ-loop) (search) .pre .1, c .header-len .ensures .1)
 
 entry-len-requires : tie.Need-entry-len-requires Inv-loop μ-loop
 entry-len-requires c κs =
-    let l = c .before .before .loop in
-    let args = c .before .before .before .before .args in
+    let l = the (tie.At-loop Inv-loop μ-loop) (search) .loop in
+    let args = the (tie.Start Inv-loop μ-loop) (search) .args in
     passing-numbers (args .s .now) (args .count) (l .at) (l .i) (l .inv .0 .passing) (omega arith)
 
 add-at : tie.Need-add-at Inv-loop μ-loop
 add-at c =
-    let l = c .before .before .before .loop in
-    let args = c .before .before .before .before .before .args in
+    let l = the (tie.At-loop Inv-loop μ-loop) (search) .loop in
+    let args = the (tie.Start Inv-loop μ-loop) (search) .args in
     omega (arith, passing-size (args .s .now) (args .count) (l .at) (l .i) (l .inv .0 .passing) (omega arith), c .entry-len .ensures .0)
 
 add-i : tie.Need-add-i Inv-loop μ-loop
@@ -69,8 +70,8 @@ loop-less c = omega arith
 loop-again : tie.Need-loop-again Inv-loop μ-loop
 unfolding texts
 loop-again c =
-    let l = c .before .before .before .loop in
-    let args = c .before .before .before .before .before .args in
+    let l = the (tie.At-loop Inv-loop μ-loop) (search) .loop in
+    let args = the (tie.Start Inv-loop μ-loop) (search) .args in
     let s = args .s .now in
     let one = c .before .header-len .ensures in
     let line = ended (headerLine (headerFrom (storedIn (drop (l .at) s)))) in
@@ -87,22 +88,11 @@ returns : tie.Need-returns Inv-loop μ-loop
 unfolding texts
 returns c =
     let l = c .before .loop in
-    let args = c .before .before .before .args in
+    let args = the (tie.Start Inv-loop μ-loop) (search) .args in
     let none = ap (λ (es : List Stored). length (lines es)) (left-end (args .s .now) (args .count) (l .at) (l .i) (omega arith)) in
-    (omega (arith, l .inv .1, none), omega (arith, l .inv .2, l .inv .0 .passing .within, c .before .before .before .pre .1))
+    (omega (arith, l .inv .1, none), omega (arith, l .inv .2, l .inv .0 .passing .within, the (tie.Start Inv-loop μ-loop) (search) .pre .1))
 
 pub headers-len-spec : {M : Type 1} → statement M
 headers-len-spec =
     tie.close
-    (tie.spec
-    Inv-loop
-    μ-loop
-    loop-holds
-    header-len-requires
-    add-n
-    entry-len-requires
-    add-at
-    add-i
-    loop-less
-    loop-again
-    returns)
+    (tie.spec Inv-loop μ-loop loop-holds header-len-requires add-n entry-len-requires add-at add-i loop-less loop-again returns)

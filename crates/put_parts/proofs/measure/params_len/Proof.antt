@@ -9,25 +9,22 @@ use Rattle.put_parts.proofs.measure.params_len.Tie as tie
 
 tail-len-requires : tie.Need-tail-len-requires
 tail-len-requires c κs =
-    let start = c .before in
+    let start : tie.Start = search in
     within-numbers (start .args .s .now) (start .args .at) (start .pre .0)
 
 param-count-requires : tie.Need-param-count-requires
 param-count-requires c κs =
-    let start = c .before .before in
+    let start : tie.Start = search in
     within-numbers (start .args .s .now) (start .args .at) (start .pre .0)
-
-mul-result : tie.Need-mul-result
-mul-result c = search needs
 
 sub-result : tie.Need-sub-result
 sub-result c =
-    let start = c .before .before .before in
+    let start : tie.Start = search in
     omega (arith, params-at (drop (start .args .at) (start .args .s .now)) (start .pre .0) (start .pre .1), c .before .tail-len .ensures .0, c .param-count .ensures .0)
 
 returns : tie.Need-returns
 returns c =
-    let start = c .before .before .before in
+    let start : tie.Start = search in
     let e = params-at (drop (start .args .at) (start .args .s .now)) (start .pre .0) (start .pre .1) in
     let n = c .before .tail-len .ensures in
     let k = c .param-count .ensures in
@@ -35,4 +32,4 @@ returns c =
 
 pub params-len-spec : {M : Type 1} → statement M
 params-len-spec =
-    tie.close (tie.spec tail-len-requires param-count-requires mul-result sub-result returns)
+    tie.close (tie.spec tail-len-requires param-count-requires (λ c. search needs) sub-result returns)

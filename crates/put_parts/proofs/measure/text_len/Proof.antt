@@ -3,106 +3,80 @@ use Prim.Native.Nat.{_≤_}
 use native.Mathlib.Omega.{arith}
 use lib.ListN.{length}
 use borrow.Author.Needs.{needs}
+use Rattle.format.proofs.Typed.{the}
 use Rattle.put_parts.proofs.Whole.{numbered, headers-hold, contents-hold, contents-short, text-length}
 use Rattle.put_parts.proofs.measure.text_len.Statement.{statement}
 use Rattle.put_parts.proofs.measure.text_len.Tie as tie
 
 add-from : tie.Need-add-from
 add-from c =
-    let start = c .before .before .before in
+    let start : tie.Start = search in
     omega (arith, numbered (start .args .m) (start .args .head .now) (start .pre .0) .used, start .good)
 
 add-to : tie.Need-add-to
 add-to c =
-    let start = c .before .before .before .before in
+    let start : tie.Start = search in
     omega (arith, numbered (start .args .m) (start .args .head .now) (start .pre .0) .used, start .good)
-
-sub-headers-len : tie.Need-sub-headers-len
-sub-headers-len c = search needs
-
-part-headers-len-start : tie.Need-part-headers-len-start
-part-headers-len-start c = search needs
 
 part-headers-len-end : tie.Need-part-headers-len-end
 part-headers-len-end c =
-    let start = c .before .before .before .before in
+    let start : tie.Start = search in
     omega (arith, numbered (start .args .m) (start .args .head .now) (start .pre .0) .used)
 
 headers-len-requires : tie.Need-headers-len-requires
 headers-len-requires c κs =
-    let start = c .before .before .before .before .before in
+    let start : tie.Start = search in
     (headers-hold (start .args .m) (start .args .head .now) (start .pre .0), numbered (start .args .m) (start .args .head .now) (start .pre .0) .headers)
-
-sub-contents-len : tie.Need-sub-contents-len
-sub-contents-len c = search needs
-
-part-contents-len-start : tie.Need-part-contents-len-start
-part-contents-len-start c = search needs
 
 part-contents-len-end : tie.Need-part-contents-len-end
 part-contents-len-end c =
-    let start = c .before .before .before .before .before .before in
+    let start : tie.Start = search in
     omega (arith, numbered (start .args .m) (start .args .head .now) (start .pre .0) .used)
 
 contents-len-requires : tie.Need-contents-len-requires
 contents-len-requires c κs =
-    let start = c .before .before .before .before .before .before .before in
+    let start : tie.Start = search in
     contents-hold (start .args .m) (start .args .head .now) (start .pre .0)
 
 -- the lines of the content headers are short enough to be added
-short : (c : tie.After-contents-len) → c .contents-len .result ≤ length (c .before .before .before .before .before .before .before .before .args .head .now)
+short : (c : tie.After-contents-len) → c .contents-len .result ≤ length (the tie.Start (search) .args .head .now)
 short c =
-    let start = c .before .before .before .before .before .before .before .before in
+    let start : tie.Start = search in
     omega (arith, c .contents-len .ensures, contents-short (start .args .m) (start .args .head .now) (start .pre .0))
 
 add-result : tie.Need-add-result
 add-result c =
-    let start = c .before .before .before .before .before .before .before .before .before in
+    let start : tie.Start = search in
     omega (arith, numbered (start .args .m) (start .args .head .now) (start .pre .0) .type-short)
 
 add-result-2 : tie.Need-add-result-2
 add-result-2 c =
-    let start = c .before .before .before .before .before .before .before .before .before in
-    omega (arith, numbered (start .args .m) (start .args .head .now) (start .pre .0) .type-short, c .before .before .before .headers-len .ensures .1)
+    let start : tie.Start = search in
+    omega (arith, numbered (start .args .m) (start .args .head .now) (start .pre .0) .type-short, the tie.After-headers-len (search) .headers-len .ensures .1)
 
 add-result-3 : tie.Need-add-result-3
 add-result-3 c =
-    let start = c .before .before .before .before .before .before .before .before .before in
-    omega (arith, numbered (start .args .m) (start .args .head .now) (start .pre .0) .type-short, c .before .before .before .headers-len .ensures .1, short (c .before), start .good)
+    let start : tie.Start = search in
+    omega (arith, numbered (start .args .m) (start .args .head .now) (start .pre .0) .type-short, the tie.After-headers-len (search) .headers-len .ensures .1, short (search), start .good)
 
 body-len-requires : tie.Need-body-len-requires
 body-len-requires c κs =
-    let start = c .before .before .before .before .before .before .before .before .before in
+    let start : tie.Start = search in
     (start .pre .1, start .pre .2)
 
 add-result-4 : tie.Need-add-result-4
 add-result-4 c =
-    let start = c .before .before .before .before .before .before .before .before .before .before in
-    omega (arith, numbered (start .args .m) (start .args .head .now) (start .pre .0) .type-short, c .before .before .before .before .headers-len .ensures .1, short (c .before .before), start .good, c .body-len .ensures .1)
+    let start : tie.Start = search in
+    omega (arith, numbered (start .args .m) (start .args .head .now) (start .pre .0) .type-short, the tie.After-headers-len (search) .headers-len .ensures .1, short (search), start .good, c .body-len .ensures .1)
 
 returns : tie.Need-returns
 returns c =
-    let start = c .before .before .before .before .before .before .before .before .before .before in
+    let start : tie.Start = search in
     text-length (start .args .m) (start .args .head .now) (start .pre .0) (start .args .body .now) _ _ _
-    (c .before .before .before .before .headers-len .ensures .0) (c .before .before .contents-len .ensures) (c .body-len .ensures .0)
+    (the tie.After-headers-len (search) .headers-len .ensures .0) (the tie.After-contents-len (search) .contents-len .ensures) (c .body-len .ensures .0)
 
 pub text-len-spec : {M : Type 1} → statement M
 text-len-spec =
     tie.close
-    (tie.spec
-    add-from
-    add-to
-    sub-headers-len
-    part-headers-len-start
-    part-headers-len-end
-    headers-len-requires
-    sub-contents-len
-    part-contents-len-start
-    part-contents-len-end
-    contents-len-requires
-    add-result
-    add-result-2
-    add-result-3
-    body-len-requires
-    add-result-4
-    returns)
+    (tie.spec add-from add-to (λ c. search needs) (λ c. search needs) part-headers-len-end headers-len-requires (λ c. search needs)
+    (λ c. search needs) part-contents-len-end contents-len-requires add-result add-result-2 add-result-3 body-len-requires add-result-4 returns)

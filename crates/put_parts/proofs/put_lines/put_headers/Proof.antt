@@ -5,6 +5,7 @@ use native.Mathlib.Omega.{arith}
 use Rattle.format.specs.Bytes.{texts}
 use Rattle.format.specs.Writing.{headerLine, ended}
 use Rattle.judging.specs.Listed.{headerFrom, headersFrom}
+use Rattle.format.proofs.Typed.{the}
 use Rattle.put_parts.proofs.Passing.{passing-shaped, passing-numbers, passing-size}
 use Rattle.put_parts.proofs.Headed.{Headed, headed-start, headed-tail, headed-on}
 use Rattle.put_parts.proofs.Lined.{Lined, lined-from, lined-length, lined-room, lined-on, lined-all}
@@ -20,14 +21,14 @@ abbrev μ-loop : tie.MeasureT-loop
 loop-holds : tie.Need-loop-holds Inv-loop μ-loop
 unfolding headersFrom
 loop-holds c =
-    let start = c .before .before in
+    let start : tie.Start Inv-loop μ-loop = search in
     let hs = headed-start (start .args .s .now) (start .args .count) (start .pre .0) in
     (hs, lined-from headerFrom (λ h. ended (headerLine h)) refl (hs .passing))
 
 put-header-requires : tie.Need-put-header-requires Inv-loop μ-loop
 put-header-requires c κs =
-    let l = c .before .before .loop in
-    let start = c .before .before .before .before .before in
+    let l = the (tie.At-loop Inv-loop μ-loop) (search) .loop in
+    let start : tie.Start Inv-loop μ-loop = search in
     let args = start .args in (
       passing-shaped (args .s .now) (args .count) (l .from) (l .i) (l .inv .1 .passing) (omega arith),
       headed-tail (args .s .now) (args .count) (l .from) (l .i) (l .inv .0) (omega arith),
@@ -36,16 +37,16 @@ put-header-requires c κs =
 
 entry-len-requires : tie.Need-entry-len-requires Inv-loop μ-loop
 entry-len-requires c κs =
-    let at-loop = c .before .before .before .before .before in
+    let at-loop : tie.At-loop Inv-loop μ-loop = search in
     let l = at-loop .loop in
-    let args = at-loop .before .before .before .args in
+    let args = the (tie.Start Inv-loop μ-loop) (search) .args in
     passing-numbers (args .s .now) (args .count) (l .from) (l .i) (l .inv .1 .passing) (omega arith)
 
 add-from : tie.Need-add-from Inv-loop μ-loop
 add-from c =
-    let at-loop = c .before .before .before .before .before .before in
+    let at-loop : tie.At-loop Inv-loop μ-loop = search in
     let l = at-loop .loop in
-    let args = at-loop .before .before .before .args in
+    let args = the (tie.Start Inv-loop μ-loop) (search) .args in
     omega (arith, passing-size (args .s .now) (args .count) (l .from) (l .i) (l .inv .1 .passing) (omega arith), c .entry-len .ensures .0)
 
 add-i : tie.Need-add-i Inv-loop μ-loop
@@ -56,31 +57,20 @@ loop-less c = omega arith
 
 loop-again : tie.Need-loop-again Inv-loop μ-loop
 loop-again c =
-    let put = c .before .before .before in
-    let at-loop = put .before .before .before in
+    let put : tie.After-put-header Inv-loop μ-loop = search in
+    let at-loop : tie.At-loop Inv-loop μ-loop = search in
     let l = at-loop .loop in
-    let start = at-loop .before .before .before in
+    let start : tie.Start Inv-loop μ-loop = search in
     rw (c .entry-len .ensures .0)
     (headed-on (start .args .s .now) (start .args .count) (l .from) (l .i) (l .inv .0) (omega arith), lined-on headerFrom (λ h. ended (headerLine h)) (l .inv .1) (start .pre .1) (omega arith) (put .put-header .ensures))
 
 same-length : tie.Need-same-length Inv-loop μ-loop
-same-length c = lined-length headerFrom (λ h. ended (headerLine h)) (c .before .loop .inv .1) (c .before .before .before .before .pre .1)
+same-length c = lined-length headerFrom (λ h. ended (headerLine h)) (c .before .loop .inv .1) (the (tie.Start Inv-loop μ-loop) (search) .pre .1)
 
 returns : tie.Need-returns Inv-loop μ-loop
-returns c = lined-all headerFrom (λ h. ended (headerLine h)) (c .before .loop .inv .1) (c .before .before .before .before .pre .1) (omega arith)
+returns c = lined-all headerFrom (λ h. ended (headerLine h)) (c .before .loop .inv .1) (the (tie.Start Inv-loop μ-loop) (search) .pre .1) (omega arith)
 
 pub put-headers-spec : {M : Type 1} → statement M
 put-headers-spec =
     tie.close
-    (tie.spec
-    Inv-loop
-    μ-loop
-    loop-holds
-    put-header-requires
-    entry-len-requires
-    add-from
-    add-i
-    loop-less
-    loop-again
-    same-length
-    returns)
+    (tie.spec Inv-loop μ-loop loop-holds put-header-requires entry-len-requires add-from add-i loop-less loop-again same-length returns)

@@ -8,18 +8,19 @@ use Rattle.format.specs.Writing.{paramText}
 use Rattle.octets.proofs.Written.{Written, written-none, written-length, written-all}
 use Rattle.entries.specs.Stored.{storedIn}
 use Rattle.judging.specs.Listed.{entryFrom}
+use Rattle.format.proofs.Typed.{the}
 use Rattle.put_parts.proofs.LineParts.{part-room, part-put, param-parts}
 use Rattle.put_parts.proofs.put_lines.put_param.Statement.{statement}
 use Rattle.put_parts.proofs.put_lines.put_param.Tie as tie
 
 name-at-requires : tie.Need-name-at-requires
-name-at-requires c κs = c .before .before .pre .0
+name-at-requires c κs = the tie.Start (search) .pre .0
 
 value-at-requires : tie.Need-value-at-requires
-value-at-requires c κs = c .before .before .before .pre .0
+value-at-requires c κs = the tie.Start (search) .pre .0
 
 abbrev start : tie.After-value-at → tie.Start
-start c = c .before .before .before .before
+start c = search
 
 abbrev whole : tie.After-value-at → Bytes
 whole c = paramText (entryFrom (storedIn (drop (start c .args .from) (start c .args .s .now))))
@@ -37,60 +38,52 @@ none : (c : tie.After-value-at) → Written (whole c) (start c .args .out .now) 
 none c = written-none (whole c) (start c .args .out .now) (start c .args .at)
 
 put-byte-requires : tie.Need-put-byte-requires
-put-byte-requires c κs = omega (arith, part-room (none (c .before)) (start (c .before) .pre .1) ((semicolon ∷ [])) (name (c .before) ++ ((equals ∷ []) ++ (value (c .before) ++ []))) (parts (c .before)))
+put-byte-requires c κs = omega (arith, part-room (none (search)) (start (search) .pre .1) ((semicolon ∷ [])) (name (search) ++ ((equals ∷ []) ++ (value (search) ++ []))) (parts (search)))
 
 abbrev read1 : tie.After-put-byte → tie.After-value-at
-read1 c = (c .before .before)
+read1 c = search
 
 first : (c : tie.After-put-byte)
     → Written (whole (read1 c)) (start (read1 c) .args .out .now) (c .put-byte .last .0) (start (read1 c) .args .at) (c .put-byte .result) (name (read1 c) ++ ((equals ∷ []) ++ (value (read1 c) ++ [])))
-first c = part-put (none (c .before .before)) (start (read1 c) .pre .1) ((semicolon ∷ [])) (name (read1 c) ++ ((equals ∷ []) ++ (value (read1 c) ++ []))) (parts (read1 c)) (c .put-byte .ensures)
+first c = part-put (none (search)) (start (read1 c) .pre .1) ((semicolon ∷ [])) (name (read1 c) ++ ((equals ∷ []) ++ (value (read1 c) ++ []))) (parts (read1 c)) (c .put-byte .ensures)
 
 put-requires : tie.Need-put-requires
-put-requires c κs = part-room (first (c .before .before .before)) (start (read1 (c .before .before .before)) .pre .1) (name (read1 (c .before .before .before))) ((equals ∷ []) ++ (value (read1 (c .before .before .before)) ++ [])) refl
+put-requires c κs = part-room (first (search)) (start (read1 (search)) .pre .1) (name (read1 (search))) ((equals ∷ []) ++ (value (read1 (search)) ++ [])) refl
 
 abbrev read2 : tie.After-put → tie.After-value-at
-read2 c = read1 (c .before .before .before .before)
+read2 c = read1 (search)
 
 second : (c : tie.After-put)
     → Written (whole (read2 c)) (start (read2 c) .args .out .now) (c .put .last .0) (start (read2 c) .args .at) (c .put .result) ((equals ∷ []) ++ (value (read2 c) ++ []))
-second c = part-put (first (c .before .before .before .before)) (start (read2 c) .pre .1) (name (read2 c)) ((equals ∷ []) ++ (value (read2 c) ++ [])) refl (c .put .ensures)
+second c = part-put (first (search)) (start (read2 c) .pre .1) (name (read2 c)) ((equals ∷ []) ++ (value (read2 c) ++ [])) refl (c .put .ensures)
 
 put-byte-requires-2 : tie.Need-put-byte-requires-2
-put-byte-requires-2 c κs = omega (arith, part-room (second (c .before .before .before)) (start (read2 (c .before .before .before)) .pre .1) ((equals ∷ [])) (value (read2 (c .before .before .before)) ++ []) refl)
+put-byte-requires-2 c κs = omega (arith, part-room (second (search)) (start (read2 (search)) .pre .1) ((equals ∷ [])) (value (read2 (search)) ++ []) refl)
 
 abbrev read3 : tie.After-put-byte2 → tie.After-value-at
-read3 c = read2 (c .before .before .before .before)
+read3 c = read2 (search)
 
 third : (c : tie.After-put-byte2)
     → Written (whole (read3 c)) (start (read3 c) .args .out .now) (c .put-byte2 .last .0) (start (read3 c) .args .at) (c .put-byte2 .result) (value (read3 c) ++ [])
-third c = part-put (second (c .before .before .before .before)) (start (read3 c) .pre .1) ((equals ∷ [])) (value (read3 c) ++ []) refl (c .put-byte2 .ensures)
+third c = part-put (second (search)) (start (read3 c) .pre .1) ((equals ∷ [])) (value (read3 c) ++ []) refl (c .put-byte2 .ensures)
 
 put-requires-2 : tie.Need-put-requires-2
-put-requires-2 c κs = part-room (third (c .before .before .before)) (start (read3 (c .before .before .before)) .pre .1) (value (read3 (c .before .before .before))) ([]) refl
+put-requires-2 c κs = part-room (third (search)) (start (read3 (search)) .pre .1) (value (read3 (search))) ([]) refl
 
 abbrev read4 : tie.After-put2 → tie.After-value-at
-read4 c = read3 (c .before .before .before .before)
+read4 c = read3 (search)
 
 fourth : (c : tie.After-put2)
     → Written (whole (read4 c)) (start (read4 c) .args .out .now) (c .put2 .last .0) (start (read4 c) .args .at) (c .put2 .result) ([])
-fourth c = part-put (third (c .before .before .before .before)) (start (read4 c) .pre .1) (value (read4 c)) ([]) refl (c .put2 .ensures)
+fourth c = part-put (third (search)) (start (read4 c) .pre .1) (value (read4 c)) ([]) refl (c .put2 .ensures)
 
 same-length : tie.Need-same-length
-same-length c = written-length (fourth (c .before .before)) (start (read4 (c .before .before)) .pre .1) .0
+same-length c = written-length (fourth (search)) (start (read4 (search)) .pre .1) .0
 
 returns : tie.Need-returns
-returns c = written-all (fourth (c .before .before)) (start (read4 (c .before .before)) .pre .1) refl
+returns c = written-all (fourth (search)) (start (read4 (search)) .pre .1) refl
 
 pub put-param-spec : {M : Type 1} → statement M
 put-param-spec =
     tie.close
-    (tie.spec
-    name-at-requires
-    value-at-requires
-    put-byte-requires
-    put-requires
-    put-byte-requires-2
-    put-requires-2
-    same-length
-    returns)
+    (tie.spec name-at-requires value-at-requires put-byte-requires put-requires put-byte-requires-2 put-requires-2 same-length returns)

@@ -5,6 +5,7 @@ use native.Mathlib.Omega.{arith}
 use Rattle.format.specs.Bytes.{texts}
 use Rattle.format.specs.Writing.{paramText}
 use Rattle.judging.specs.Listed.{entryFrom, entriesFrom}
+use Rattle.format.proofs.Typed.{the}
 use Rattle.put_parts.proofs.Passing.{passing-shaped, passing-numbers, passing-size}
 use Rattle.put_parts.proofs.Lined.{Lined, lined-start, lined-length, lined-room, lined-on, lined-all}
 use Rattle.put_parts.proofs.put_lines.put_params.Statement.{statement}
@@ -19,13 +20,13 @@ abbrev μ-loop : tie.MeasureT-loop
 loop-holds : tie.Need-loop-holds Inv-loop μ-loop
 unfolding entriesFrom
 loop-holds c =
-    let start = c .before .before in
+    let start : tie.Start Inv-loop μ-loop = search in
     lined-start entryFrom paramText refl (start .pre .0)
 
 put-param-requires : tie.Need-put-param-requires Inv-loop μ-loop
 put-param-requires c κs =
-    let l = c .before .before .loop in
-    let start = c .before .before .before .before .before in
+    let l = the (tie.At-loop Inv-loop μ-loop) (search) .loop in
+    let start : tie.Start Inv-loop μ-loop = search in
     let args = start .args in (
       passing-shaped (args .s .now) (args .count) (l .from) (l .i) (l .inv .passing) (omega arith),
       lined-room entryFrom paramText (l .inv) (start .pre .1) (omega arith),
@@ -33,16 +34,16 @@ put-param-requires c κs =
 
 entry-len-requires : tie.Need-entry-len-requires Inv-loop μ-loop
 entry-len-requires c κs =
-    let at-loop = c .before .before .before .before .before in
+    let at-loop : tie.At-loop Inv-loop μ-loop = search in
     let l = at-loop .loop in
-    let args = at-loop .before .before .before .args in
+    let args = the (tie.Start Inv-loop μ-loop) (search) .args in
     passing-numbers (args .s .now) (args .count) (l .from) (l .i) (l .inv .passing) (omega arith)
 
 add-from : tie.Need-add-from Inv-loop μ-loop
 add-from c =
-    let at-loop = c .before .before .before .before .before .before in
+    let at-loop : tie.At-loop Inv-loop μ-loop = search in
     let l = at-loop .loop in
-    let args = at-loop .before .before .before .args in
+    let args = the (tie.Start Inv-loop μ-loop) (search) .args in
     omega (arith, passing-size (args .s .now) (args .count) (l .from) (l .i) (l .inv .passing) (omega arith), c .entry-len .ensures .0)
 
 add-i : tie.Need-add-i Inv-loop μ-loop
@@ -53,30 +54,19 @@ loop-less c = omega arith
 
 loop-again : tie.Need-loop-again Inv-loop μ-loop
 loop-again c =
-    let put = c .before .before .before in
-    let at-loop = put .before .before .before in
+    let put : tie.After-put-param Inv-loop μ-loop = search in
+    let at-loop : tie.At-loop Inv-loop μ-loop = search in
     let l = at-loop .loop in
-    let start = at-loop .before .before .before in
+    let start : tie.Start Inv-loop μ-loop = search in
     rw (c .entry-len .ensures .0) (lined-on entryFrom paramText (l .inv) (start .pre .1) (omega arith) (put .put-param .ensures))
 
 same-length : tie.Need-same-length Inv-loop μ-loop
-same-length c = lined-length entryFrom paramText (c .before .loop .inv) (c .before .before .before .before .pre .1)
+same-length c = lined-length entryFrom paramText (c .before .loop .inv) (the (tie.Start Inv-loop μ-loop) (search) .pre .1)
 
 returns : tie.Need-returns Inv-loop μ-loop
-returns c = lined-all entryFrom paramText (c .before .loop .inv) (c .before .before .before .before .pre .1) (omega arith)
+returns c = lined-all entryFrom paramText (c .before .loop .inv) (the (tie.Start Inv-loop μ-loop) (search) .pre .1) (omega arith)
 
 pub put-params-spec : {M : Type 1} → statement M
 put-params-spec =
     tie.close
-    (tie.spec
-    Inv-loop
-    μ-loop
-    loop-holds
-    put-param-requires
-    entry-len-requires
-    add-from
-    add-i
-    loop-less
-    loop-again
-    same-length
-    returns)
+    (tie.spec Inv-loop μ-loop loop-holds put-param-requires entry-len-requires add-from add-i loop-less loop-again same-length returns)

@@ -16,6 +16,7 @@ use Rattle.content_line.proofs.Lines.{content-line-valid}
 use Rattle.placing.proofs.Bounds.{part-is}
 use Rattle.sections.specs.Cuts.{lineEndFor}
 use Rattle.sections.proofs.Cutting.{lines-are}
+use Rattle.format.proofs.Typed.{the}
 use Rattle.reading.proofs.Looping.{does-same, lengths-kept, others, next-line, no-others, more-others, end-within, next-within, SoFar, so-far-start, still-held, line-refused, line-last, line-next}
 use Rattle.reading.proofs.section_lines.read_contents.Statement.{statement}
 use Rattle.reading.proofs.section_lines.read_contents.Tie as tie
@@ -29,38 +30,35 @@ abbrev μ-loop : tie.MeasureT-loop
 
 -- what the loop began with
 abbrev section-at : tie.At-loop Inv-loop μ-loop → Bytes
-section-at c = c .before .before .before .before .args .section .now
+section-at c = the (tie.Start Inv-loop μ-loop) (search) .args .section .now
 
 abbrev step-at : tie.At-loop Inv-loop μ-loop → Bytes → Message → Out Message
-step-at c = readContentLine (lengths (headLent (c .before .before .before .before .args .m) (c .before .before .before .before .args .head .now)))
+step-at c = readContentLine (lengths (headLent (the (tie.Start Inv-loop μ-loop) (search) .args .m) (the (tie.Start Inv-loop μ-loop) (search) .args .head .now)))
 
 abbrev end-at : tie.At-loop Inv-loop μ-loop → Bytes
 end-at c = lineEndFor (c .before .crlf-lines .result)
 
 -- the next line and the others
 abbrev line-at : tie.After-struct-known Inv-loop μ-loop → Bytes
-line-at c = take (c .before .cut-line .result .end) (drop (c .before .before .before .loop .at) (section-at (c .before .before .before)))
+line-at c = take (c .before .cut-line .result .end) (drop (the (tie.At-loop Inv-loop μ-loop) (search) .loop .at) (section-at (search)))
 
 abbrev others-at : tie.After-struct-known Inv-loop μ-loop → List Bytes
-others-at c = others (c .before .before .before .before .crlf-lines .result) (section-at (c .before .before .before)) (c .before .before .before .loop .at) (c .before .cut-line .result) (c .before .cut-line .ensures)
+others-at c = others (the (tie.After-crlf-lines Inv-loop μ-loop) (search) .crlf-lines .result) (section-at (search)) (the (tie.At-loop Inv-loop μ-loop) (search) .loop .at) (c .before .cut-line .result) (c .before .cut-line .ensures)
 
-cut : (c : tie.After-struct-known Inv-loop μ-loop) → pieces (split (end-at (c .before .before .before)) (drop (c .before .before .before .loop .at) (section-at (c .before .before .before)))) ≡ line-at c ∷ others-at c
-cut c = next-line (c .before .before .before .before .crlf-lines .result) (section-at (c .before .before .before)) (c .before .before .before .loop .at) (c .before .cut-line .result) (c .before .cut-line .ensures)
+cut : (c : tie.After-struct-known Inv-loop μ-loop) → pieces (split (end-at (search)) (drop (the (tie.At-loop Inv-loop μ-loop) (search) .loop .at) (section-at (search)))) ≡ line-at c ∷ others-at c
+cut c = next-line (the (tie.After-crlf-lines Inv-loop μ-loop) (search) .crlf-lines .result) (section-at (search)) (the (tie.At-loop Inv-loop μ-loop) (search) .loop .at) (c .before .cut-line .result) (c .before .cut-line .ensures)
 
-end : (c : tie.After-struct-known Inv-loop μ-loop) → c .before .before .before .loop .at + c .before .cut-line .result .end ≤ length (section-at (c .before .before .before))
-end c = end-within (c .before .before .before .before .crlf-lines .result) (section-at (c .before .before .before)) (c .before .before .before .loop .at) (c .before .cut-line .result) (c .before .cut-line .ensures) (c .before .before .before .loop .inv .place)
+end : (c : tie.After-struct-known Inv-loop μ-loop) → the (tie.At-loop Inv-loop μ-loop) (search) .loop .at + c .before .cut-line .result .end ≤ length (section-at (search))
+end c = end-within (the (tie.After-crlf-lines Inv-loop μ-loop) (search) .crlf-lines .result) (section-at (search)) (the (tie.At-loop Inv-loop μ-loop) (search) .loop .at) (c .before .cut-line .result) (c .before .cut-line .ensures) (the (tie.At-loop Inv-loop μ-loop) (search) .loop .inv .place)
 
 -- the place behind a line that others follow
 next : (c : tie.After-struct-known Inv-loop μ-loop) → c .before .cut-line .result .last ≡ false
-    → (c .before .before .before .loop .at + c .before .cut-line .result .next ≤ length (section-at (c .before .before .before))) × (0 < c .before .cut-line .result .next)
-next c h = next-within (c .before .before .before .before .crlf-lines .result) (section-at (c .before .before .before)) (c .before .before .before .loop .at) (c .before .cut-line .result) (c .before .cut-line .ensures) (c .before .before .before .loop .inv .place) h
-
-crlf-lines-requires : tie.Need-crlf-lines-requires Inv-loop μ-loop
-crlf-lines-requires c κs = search needs
+    → (the (tie.At-loop Inv-loop μ-loop) (search) .loop .at + c .before .cut-line .result .next ≤ length (section-at (search))) × (0 < c .before .cut-line .result .next)
+next c h = next-within (the (tie.After-crlf-lines Inv-loop μ-loop) (search) .crlf-lines .result) (section-at (search)) (the (tie.At-loop Inv-loop μ-loop) (search) .loop .at) (c .before .cut-line .result) (c .before .cut-line .ensures) (the (tie.At-loop Inv-loop μ-loop) (search) .loop .inv .place) h
 
 loop-holds : tie.Need-loop-holds Inv-loop μ-loop
 loop-holds c =
-    let start = c .before .before .before in
+    let start : tie.Start Inv-loop μ-loop = search in
     so-far-start (readContentLine (lengths (headLent (start .args .m) (start .args .head .now)))) (lineEndFor (c .crlf-lines .result)) (start .args .section .now) (start .args .m) (start .args .head .now)
     (lines-are (start .args .section .now) ∙ ap (λ (b : Bool). pieces (split (lineEndFor b) (start .args .section .now))) (sym (c .crlf-lines .ensures))) (start .pre .1)
 
@@ -69,12 +67,6 @@ sub-cut-line c = omega (arith, c .loop .inv .place)
 
 part-cut-line-start : tie.Need-part-cut-line-start Inv-loop μ-loop
 part-cut-line-start c = omega (arith, c .loop .inv .place)
-
-part-cut-line-end : tie.Need-part-cut-line-end Inv-loop μ-loop
-part-cut-line-end c = search needs
-
-cut-line-requires : tie.Need-cut-line-requires Inv-loop μ-loop
-cut-line-requires c κs = search needs
 
 add-end : tie.Need-add-end Inv-loop μ-loop
 add-end c = record { fits = omega (arith, end c) }
@@ -90,82 +82,58 @@ part-read-content-line-end c = omega (arith, end c)
 
 read-content-line-requires : tie.Need-read-content-line-requires Inv-loop μ-loop
 read-content-line-requires c κs =
-    let a = c .before .before .before .before .before in
-    let start = a .before .before .before .before in
+    let a : tie.At-loop Inv-loop μ-loop = search in
+    let start : tie.Start Inv-loop μ-loop = search in
     still-held (step-at a) (end-at a) (section-at a) (start .args .m) (start .args .head .now) (a .loop .at) (a .loop .so-far) (a .loop .head) (a .loop .inv) (start .pre .0)
-
-same-length : tie.Need-same-length Inv-loop μ-loop
-same-length c = search needs
 
 returns : tie.Need-returns Inv-loop μ-loop
 returns c =
-    let k = c .before .before .before .before .before .before .before in
-    let a = k .before .before .before in
-    let start = a .before .before .before .before in
+    let k : tie.After-struct-known Inv-loop μ-loop = search in
+    let a : tie.At-loop Inv-loop μ-loop = search in
+    let start : tie.Start Inv-loop μ-loop = search in
     line-refused (step-at a) (end-at a) (section-at a) (start .args .m) (start .args .head .now) (a .loop .at) (a .loop .so-far) (a .loop .head) (a .loop .inv) (line-at k) (others-at k) (cut k) _ _ _
-    (does-same _ _ _ readContentLine _ _ _ _ (lengths-kept _ _ _ _ (a .loop .inv .kept)) (part-is (a .loop .at) (k .before .cut-line .result .end) (section-at a)) (c .before .before .before .before .read-content-line .ensures))
+    (does-same _ _ _ readContentLine _ _ _ _ (lengths-kept _ _ _ _ (a .loop .inv .kept)) (part-is (a .loop .at) (k .before .cut-line .result .end) (section-at a)) (the (tie.After-read-content-line Inv-loop μ-loop) (search) .read-content-line .ensures))
     (c .if1 .taken)
-
-same-length-2 : tie.Need-same-length-2 Inv-loop μ-loop
-same-length-2 c = search needs
 
 returns-2 : tie.Need-returns-2 Inv-loop μ-loop
 returns-2 c =
-    let k = c .before .before .before .before .before .before .before .before in
-    let a = k .before .before .before in
-    let start = a .before .before .before .before in
+    let k : tie.After-struct-known Inv-loop μ-loop = search in
+    let a : tie.At-loop Inv-loop μ-loop = search in
+    let start : tie.Start Inv-loop μ-loop = search in
     line-last (step-at a) (end-at a) (section-at a) (start .args .m) (start .args .head .now) (a .loop .at) (a .loop .so-far) (a .loop .head) (a .loop .inv) (line-at k) (others-at k) (cut k) _ _ _
-    (does-same _ _ _ readContentLine _ _ _ _ (lengths-kept _ _ _ _ (a .loop .inv .kept)) (part-is (a .loop .at) (k .before .cut-line .result .end) (section-at a)) (c .before .before .before .before .before .read-content-line .ensures))
+    (does-same _ _ _ readContentLine _ _ _ _ (lengths-kept _ _ _ _ (a .loop .inv .kept)) (part-is (a .loop .at) (k .before .cut-line .result .end) (section-at a)) (the (tie.After-read-content-line Inv-loop μ-loop) (search) .read-content-line .ensures))
     (content-line-valid _) (c .before .if1 .left)
     (no-others _ _ _ _ (k .before .cut-line .ensures) (c .if2 .taken))
 
 add-at : tie.Need-add-at Inv-loop μ-loop
 add-at c =
-    let k = c .before .before .before .before .before .before .before .before .before .before in
-    let a = k .before .before .before in
-    let start = a .before .before .before .before in
-    record { fits = omega (arith, end k, next k (c .before .before .if2 .left)) }
+    let k : tie.After-struct-known Inv-loop μ-loop = search in
+    let a : tie.At-loop Inv-loop μ-loop = search in
+    let start : tie.Start Inv-loop μ-loop = search in
+    record { fits = omega (arith, end k, next k (the (tie.Else2 Inv-loop μ-loop) (search) .if2 .left)) }
 
 loop-less : tie.Need-loop-less Inv-loop μ-loop
 loop-less c =
-    let k = c .before .before .before .before .before .before .before .before .before .before in
-    let a = k .before .before .before in
-    let start = a .before .before .before .before in
-    omega (arith, next k (c .before .before .if2 .left))
+    let k : tie.After-struct-known Inv-loop μ-loop = search in
+    let a : tie.At-loop Inv-loop μ-loop = search in
+    let start : tie.Start Inv-loop μ-loop = search in
+    omega (arith, next k (the (tie.Else2 Inv-loop μ-loop) (search) .if2 .left))
 
 loop-again : tie.Need-loop-again Inv-loop μ-loop
 loop-again c =
-    let k = c .before .before .before .before .before .before .before .before .before .before in
-    let a = k .before .before .before in
-    let start = a .before .before .before .before in
+    let k : tie.After-struct-known Inv-loop μ-loop = search in
+    let a : tie.At-loop Inv-loop μ-loop = search in
+    let start : tie.Start Inv-loop μ-loop = search in
     line-next (step-at a) (end-at a) (section-at a) (start .args .m) (start .args .head .now) (a .loop .at) (a .loop .so-far) (a .loop .head) (a .loop .inv) (line-at k) (others-at k) (cut k) _ _ _
-    (does-same _ _ _ readContentLine _ _ _ _ (lengths-kept _ _ _ _ (a .loop .inv .kept)) (part-is (a .loop .at) (k .before .cut-line .result .end) (section-at a)) (c .before .before .before .before .before .before .before .read-content-line .ensures))
-    (content-line-valid _) (c .before .before .before .if1 .left) _
-    (next k (c .before .before .if2 .left) .0)
-    (c .before .before .before .before .before .before .before .read-content-line .kept .1 .1 .0)
-    (more-others _ _ _ _ (k .before .cut-line .ensures) (c .before .before .if2 .left))
+    (does-same _ _ _ readContentLine _ _ _ _ (lengths-kept _ _ _ _ (a .loop .inv .kept)) (part-is (a .loop .at) (k .before .cut-line .result .end) (section-at a)) (the (tie.After-read-content-line Inv-loop μ-loop) (search) .read-content-line .ensures))
+    (content-line-valid _) (the (tie.Else1 Inv-loop μ-loop) (search) .if1 .left) _
+    (next k (the (tie.Else2 Inv-loop μ-loop) (search) .if2 .left) .0)
+    (the (tie.After-read-content-line Inv-loop μ-loop) (search) .read-content-line .kept .1 .1 .0)
+    (more-others _ _ _ _ (k .before .cut-line .ensures) (the (tie.Else2 Inv-loop μ-loop) (search) .if2 .left))
 
 pub read-contents-spec : {M : Type 1} → statement M
 read-contents-spec =
     tie.close
-    (tie.spec
-    Inv-loop
-    μ-loop
-    crlf-lines-requires
-    loop-holds
-    sub-cut-line
-    part-cut-line-start
-    part-cut-line-end
-    cut-line-requires
-    add-end
-    sub-read-content-line
-    part-read-content-line-start
-    part-read-content-line-end
-    read-content-line-requires
-    same-length
-    returns
-    same-length-2
-    returns-2
-    add-at
-    loop-less
-    loop-again)
+    (tie.spec Inv-loop μ-loop (λ c κs. search needs) loop-holds sub-cut-line part-cut-line-start (λ c. search needs) (λ c κs. search needs) add-end
+    sub-read-content-line part-read-content-line-start part-read-content-line-end read-content-line-requires (λ c. search needs) returns
+    (λ c. search needs) returns-2 add-at loop-less loop-again)

@@ -2,14 +2,12 @@
 use mathlib.Core.Path.{sym}
 use borrow.Author.Needs.{needs}
 use Rattle.octets.proofs.Find.{found-has}
+use Rattle.format.proofs.Typed.{the}
 use Rattle.sections.proofs.fields.has.Statement.{statement}
 use Rattle.sections.proofs.fields.has.Tie as tie
 
-find-byte-requires : tie.Need-find-byte-requires
-find-byte-requires c κs = search needs
-
 returns : tie.Need-returns
-returns c = sym (found-has (c .before .before .args .c) (c .before .before .args .s .now) (c .find-byte .result) (c .find-byte .ensures))
+returns c = sym (found-has (the tie.Start (search) .args .c) (the tie.Start (search) .args .s .now) (c .find-byte .result) (c .find-byte .ensures))
 
 pub has-spec : {M : Type 1} → statement M
-has-spec = tie.close (tie.spec find-byte-requires returns)
+has-spec = tie.close (tie.spec (λ c κs. search needs) returns)

@@ -6,35 +6,24 @@ use borrow.Author.Needs.{needs}
 use lib.ListN.{length, take, drop, drop-of-length-le}
 use Rattle.format.proofs.Lists.{rest-is}
 use Rattle.octets.proofs.Find.{found-within, found-past}
+use Rattle.format.proofs.Typed.{the}
 use Rattle.sections.proofs.Splits.{as-others}
 use Rattle.sections.proofs.fields.past.Statement.{statement}
 use Rattle.sections.proofs.fields.past.Tie as tie
 
 -- the byte was found within the text
-inside : (c : tie.Else1) → c .before .find-byte .result < length (c .before .before .before .args .s .now)
+inside : (c : tie.Else1) → c .before .find-byte .result < length (the tie.Start (search) .args .s .now)
 inside c =
-    let args = c .before .before .before .args in
+    let args = the tie.Start (search) .args in
     omega (arith, found-within (args .c) (args .s .now) (c .before .find-byte .result) (c .before .find-byte .ensures))
-
-find-byte-requires : tie.Need-find-byte-requires
-find-byte-requires c κs = search needs
-
-sub-result : tie.Need-sub-result
-sub-result c = search needs
-
-part-result-start : tie.Need-part-result-start
-part-result-start c = search needs
-
-part-result-end : tie.Need-part-result-end
-part-result-end c = search needs
 
 returns : tie.Need-returns
 returns c =
-    let args = c .before .before .before .before .args in
+    let args = the tie.Start (search) .args in
     let s = args .s .now in
-    let end = c .before .before .find-byte .result in
+    let end = the tie.After-find-byte (search) .find-byte .result in
     let none = drop-of-length-le s {i = end} (omega arith) in
-    let past-none = found-past (args .c) s end (c .before .before .find-byte .ensures) ∙ drop-of-length-le s {i = end + 1} (omega arith) in
+    let past-none = found-past (args .c) s end (the tie.After-find-byte (search) .find-byte .ensures) ∙ drop-of-length-le s {i = end + 1} (omega arith) in
     as-others (args .c) s (take (length s - end) (drop end s)) (rest-is s end ∙ none ∙ sym past-none)
 
 add-next : tie.Need-add-next
@@ -46,28 +35,16 @@ sub-result-2 c = omega (arith, inside c)
 part-result-start-2 : tie.Need-part-result-start-2
 part-result-start-2 c = omega (arith, inside c)
 
-part-result-end-2 : tie.Need-part-result-end-2
-part-result-end-2 c = search needs
-
 returns-2 : tie.Need-returns-2
 returns-2 c =
-    let args = c .before .before .before .before .args in
+    let args = the tie.Start (search) .args in
     let s = args .s .now in
-    let next = c .before .before .find-byte .result + 1 in
+    let next = the tie.After-find-byte (search) .find-byte .result + 1 in
     as-others (args .c) s (take (length s - next) (drop next s))
-    (rest-is s next ∙ sym (found-past (args .c) s (c .before .before .find-byte .result) (c .before .before .find-byte .ensures)))
+    (rest-is s next ∙ sym (found-past (args .c) s (the tie.After-find-byte (search) .find-byte .result) (the tie.After-find-byte (search) .find-byte .ensures)))
 
 pub past-spec : {M : Type 1} → statement M
 past-spec =
     tie.close
-    (tie.spec
-    find-byte-requires
-    sub-result
-    part-result-start
-    part-result-end
-    returns
-    add-next
-    sub-result-2
-    part-result-start-2
-    part-result-end-2
-    returns-2)
+    (tie.spec (λ c κs. search needs) (λ c. search needs) (λ c. search needs) (λ c. search needs) returns add-next sub-result-2 part-result-start-2
+    (λ c. search needs) returns-2)

@@ -4,24 +4,22 @@ use borrow.Author.Needs.{needs}
 use lib.ListN.{take}
 use lib.Seq.{length-take-le}
 use Rattle.octets.proofs.Find.{found-within, found-upTo}
+use Rattle.format.proofs.Typed.{the}
 use Rattle.sections.proofs.Splits.{as-first}
 use Rattle.sections.proofs.fields.up_to.Statement.{statement}
 use Rattle.sections.proofs.fields.up_to.Tie as tie
 
-find-byte-requires : tie.Need-find-byte-requires
-find-byte-requires c κs = search needs
-
 slice-aggregate-result : tie.Need-slice-aggregate-result
 slice-aggregate-result c =
-    let args = c .before .before .before .args in
+    let args = the tie.Start (search) .args in
     let end = c .before .find-byte .result in
     sym (length-take-le end (args .s .now) (found-within (args .c) (args .s .now) end (c .before .find-byte .ensures)))
 
 returns : tie.Need-returns
 returns c =
-    let args = c .before .before .before .args in
+    let args = the tie.Start (search) .args in
     let end = c .before .find-byte .result in
     as-first (args .c) (args .s .now) (take end (args .s .now)) (sym (found-upTo (args .c) (args .s .now) end (c .before .find-byte .ensures)))
 
 pub up-to-spec : {M : Type 1} → statement M
-up-to-spec = tie.close (tie.spec find-byte-requires slice-aggregate-result returns)
+up-to-spec = tie.close (tie.spec (λ c κs. search needs) slice-aggregate-result returns)

@@ -6,6 +6,7 @@ use native.Mathlib.Omega.{arith}
 use lib.ListN.{length, take, drop, length-drop}
 use borrow.Author.Needs.{needs}
 use Rattle.format.proofs.Lists.{rest-is}
+use Rattle.format.proofs.Typed.{the}
 use Rattle.sections.specs.Place.{place}
 use Rattle.sections.proofs.FirstPlace.{place-le, part-found}
 use Rattle.sections.proofs.Blocks.{block-past}
@@ -18,99 +19,38 @@ Inv-loop text pattern span at₀ at = (at ≤ length text) × (place pattern tex
 abbrev μ-loop : tie.MeasureT-loop
 μ-loop text pattern span at₀ at = length text - at
 
-add-span : tie.Need-add-span Inv-loop μ-loop
-add-span c = search needs
-
 loop-holds : tie.Need-loop-holds Inv-loop μ-loop
 loop-holds c = (omega arith, omega arith)
 
-sub-loop : tie.Need-sub-loop Inv-loop μ-loop
-sub-loop c = search needs
-
-add-find-in-64 : tie.Need-add-find-in-64 Inv-loop μ-loop
-add-find-in-64 c = search needs
-
-sub-find-in-64 : tie.Need-sub-find-in-64 Inv-loop μ-loop
-sub-find-in-64 c = search needs
-
-part-find-in-64-start : tie.Need-part-find-in-64-start Inv-loop μ-loop
-part-find-in-64-start c = search needs
-
-part-find-in-64-end : tie.Need-part-find-in-64-end Inv-loop μ-loop
-part-find-in-64-end c = search needs
-
-find-in-64-requires : tie.Need-find-in-64-requires Inv-loop μ-loop
-find-in-64-requires c κs = search needs
-
-add-result : tie.Need-add-result Inv-loop μ-loop
-add-result c = search needs
-
 returns : tie.Need-returns Inv-loop μ-loop
 returns c =
-    let text = c .before .before .before .before .before .before .before .args .text .now in
-    let pattern = c .before .before .before .before .before .before .before .args .pattern .now in
-    let at = c .before .before .before .before .loop .at in
+    let text = the (tie.Start Inv-loop μ-loop) (search) .args .text .now in
+    let pattern = the (tie.Start Inv-loop μ-loop) (search) .args .pattern .now in
+    let at = the (tie.At-loop Inv-loop μ-loop) (search) .loop .at in
     omega (arith, part-found 64 (at + (length pattern + 63) - at) (length pattern - 1) pattern (drop at text) (omega arith) (omega arith) (omega arith))
-
-add-at : tie.Need-add-at Inv-loop μ-loop
-add-at c = search needs
-
-loop-less : tie.Need-loop-less Inv-loop μ-loop
-loop-less c = search needs
 
 loop-again : tie.Need-loop-again Inv-loop μ-loop
 loop-again c =
-    let text = c .before .before .before .before .before .before .before .args .text .now in
-    let pattern = c .before .before .before .before .before .before .before .args .pattern .now in
-    (omega arith, omega (arith, block-past 63 pattern text (c .before .before .before .before .loop .at) (omega arith) (omega arith) (omega arith)))
-
-sub-find-by-16 : tie.Need-sub-find-by-16 Inv-loop μ-loop
-sub-find-by-16 c = search needs
-
-part-find-by-16-start : tie.Need-part-find-by-16-start Inv-loop μ-loop
-part-find-by-16-start c = search needs
-
-part-find-by-16-end : tie.Need-part-find-by-16-end Inv-loop μ-loop
-part-find-by-16-end c = search needs
-
-find-by-16-requires : tie.Need-find-by-16-requires Inv-loop μ-loop
-find-by-16-requires c κs = search needs
+    let text = the (tie.Start Inv-loop μ-loop) (search) .args .text .now in
+    let pattern = the (tie.Start Inv-loop μ-loop) (search) .args .pattern .now in
+    (omega arith, omega (arith, block-past 63 pattern text (the (tie.At-loop Inv-loop μ-loop) (search) .loop .at) (omega arith) (omega arith) (omega arith)))
 
 add-result-2 : tie.Need-add-result-2 Inv-loop μ-loop
 add-result-2 c =
-    let text = c .before .before .before .before .before .before .args .text .now in
-    let pattern = c .before .before .before .before .before .before .args .pattern .now in
-    let at = c .before .before .before .loop .at in
+    let text = the (tie.Start Inv-loop μ-loop) (search) .args .text .now in
+    let pattern = the (tie.Start Inv-loop μ-loop) (search) .args .pattern .now in
+    let at = the (tie.At-loop Inv-loop μ-loop) (search) .loop .at in
     record { fits = omega (arith, ap (place pattern) (rest-is text at), place-le pattern (drop at text), length-drop at text) }
 
 returns-2 : tie.Need-returns-2 Inv-loop μ-loop
 returns-2 c =
-    let text = c .before .before .before .before .before .before .args .text .now in
-    let pattern = c .before .before .before .before .before .before .args .pattern .now in
-    omega (arith, ap (place pattern) (rest-is text (c .before .before .before .loop .at)))
+    let text = the (tie.Start Inv-loop μ-loop) (search) .args .text .now in
+    let pattern = the (tie.Start Inv-loop μ-loop) (search) .args .pattern .now in
+    omega (arith, ap (place pattern) (rest-is text (the (tie.At-loop Inv-loop μ-loop) (search) .loop .at)))
 
 pub find-spec : {M : Type 1} → statement M
 find-spec =
     tie.close
-    (tie.spec
-    Inv-loop
-    μ-loop
-    add-span
-    loop-holds
-    sub-loop
-    add-find-in-64
-    sub-find-in-64
-    part-find-in-64-start
-    part-find-in-64-end
-    find-in-64-requires
-    add-result
-    returns
-    add-at
-    loop-less
-    loop-again
-    sub-find-by-16
-    part-find-by-16-start
-    part-find-by-16-end
-    find-by-16-requires
-    add-result-2
-    returns-2)
+    (tie.spec Inv-loop μ-loop (λ c. search needs) loop-holds (λ c. search needs) (λ c. search needs) (λ c. search needs) (λ c. search needs)
+    (λ c. search needs) (λ c κs. search needs) (λ c. search needs) returns (λ c. search needs) (λ c. search needs) loop-again (λ c. search needs)
+    (λ c. search needs) (λ c. search needs) (λ c κs. search needs) add-result-2 returns-2)

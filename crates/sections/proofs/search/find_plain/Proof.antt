@@ -10,6 +10,7 @@ use native.Mathlib.Omega.{arith}
 use lib.ListN.{length, drop, length-drop}
 use borrow.Author.Needs.{needs}
 use Rattle.format.specs.Bytes.{begins}
+use Rattle.format.proofs.Typed.{the}
 use Rattle.sections.specs.Place.{place}
 use Rattle.sections.proofs.Begins.{begins-same, begins-differs, begins-done}
 use Rattle.sections.proofs.FirstPlace.{place-here, place-next, place-short}
@@ -31,67 +32,43 @@ abbrev μ-places : tie.MeasureT-places
 places-holds : tie.Need-places-holds Inv-loop μ-loop Inv-places μ-places
 places-holds c = (omega arith, omega arith)
 
-sub-if1 : tie.Need-sub-if1 Inv-loop μ-loop Inv-places μ-places
-sub-if1 c = search needs
-
 loop-holds : tie.Need-loop-holds Inv-loop μ-loop Inv-places μ-places
 loop-holds c = (omega arith, omega arith, rw (add-zero (c .before .places .place)) refl)
 
-add-if3 : tie.Need-add-if3 Inv-loop μ-loop Inv-places μ-places
-add-if3 c = search needs
-
-shared-slice-read-if3 : tie.Need-shared-slice-read-if3 Inv-loop μ-loop Inv-places μ-places
-shared-slice-read-if3 c = search needs
-
-shared-slice-read-if3-2 : tie.Need-shared-slice-read-if3-2 Inv-loop μ-loop Inv-places μ-places
-shared-slice-read-if3-2 c = search needs
-
-add-k : tie.Need-add-k Inv-loop μ-loop Inv-places μ-places
-add-k c = search needs
-
-loop-less : tie.Need-loop-less Inv-loop μ-loop Inv-places μ-places
-loop-less c = search needs
-
 loop-again : tie.Need-loop-again Inv-loop μ-loop Inv-places μ-places
 loop-again c =
-    let text = c .before .before .before .before .before .before .before .args .text .now in
-    let pattern = c .before .before .before .before .before .before .before .args .pattern .now in
-    let at = c .before .before .before .before .before .before .places .place in
-    let k = c .before .before .before .before .loop .k in
+    let text = the (tie.Start Inv-loop μ-loop Inv-places μ-places) (search) .args .text .now in
+    let pattern = the (tie.Start Inv-loop μ-loop Inv-places μ-places) (search) .args .pattern .now in
+    let at = the (tie.At-places Inv-loop μ-loop Inv-places μ-places) (search) .places .place in
+    let k = the (tie.At-loop Inv-loop μ-loop Inv-places μ-places) (search) .loop .k in
     let next : at + (k + 1) ≡ at + k + 1 = omega arith in (
       omega arith,
       omega arith,
-      c .before .before .before .before .loop .inv .2 ∙ rw next (begins-same pattern text k (at + k) (omega arith) (omega arith) (c .if3 .left)),
+      the (tie.At-loop Inv-loop μ-loop Inv-places μ-places) (search) .loop .inv .2 ∙ rw next (begins-same pattern text k (at + k) (omega arith) (omega arith) (c .if3 .left)),
     )
-
-add-place : tie.Need-add-place Inv-loop μ-loop Inv-places μ-places
-add-place c = search needs
-
-places-less : tie.Need-places-less Inv-loop μ-loop Inv-places μ-places
-places-less c = search needs
 
 places-again : tie.Need-places-again Inv-loop μ-loop Inv-places μ-places
 places-again c =
-    let text = c .before .before .before .before .before .before .before .args .text .now in
-    let pattern = c .before .before .before .before .before .before .before .args .pattern .now in
-    let at = c .before .before .before .before .before .before .places .place in
-    let k = c .before .before .before .before .loop .k in
+    let text = the (tie.Start Inv-loop μ-loop Inv-places μ-places) (search) .args .text .now in
+    let pattern = the (tie.Start Inv-loop μ-loop Inv-places μ-places) (search) .args .pattern .now in
+    let at = the (tie.At-places Inv-loop μ-loop Inv-places μ-places) (search) .places .place in
+    let k = the (tie.At-loop Inv-loop μ-loop Inv-places μ-places) (search) .loop .k in
     let differs : begins pattern (drop at text) ≡ false =
-    c .before .before .before .before .loop .inv .2 ∙ begins-differs pattern text k (at + k) (omega arith) (omega arith) (c .if3 .taken) in
+    the (tie.At-loop Inv-loop μ-loop Inv-places μ-places) (search) .loop .inv .2 ∙ begins-differs pattern text k (at + k) (omega arith) (omega arith) (c .if3 .taken) in
     (omega arith, omega (arith, place-next pattern text at (omega arith) differs))
 
 returns : tie.Need-returns Inv-loop μ-loop Inv-places μ-places
 returns c =
-    let text = c .before .before .args .text .now in
-    let pattern = c .before .before .args .pattern .now in
+    let text = the (tie.Start Inv-loop μ-loop Inv-places μ-places) (search) .args .text .now in
+    let pattern = the (tie.Start Inv-loop μ-loop Inv-places μ-places) (search) .args .pattern .now in
     let at = c .before .places .place in
     omega (arith, place-short pattern (drop at text) (simp length-drop (omega arith)), length-drop at text)
 
 returns-2 : tie.Need-returns-2 Inv-loop μ-loop Inv-places μ-places
 returns-2 c =
-    let text = c .before .before .before .before .args .text .now in
-    let pattern = c .before .before .before .before .args .pattern .now in
-    let at = c .before .before .before .places .place in
+    let text = the (tie.Start Inv-loop μ-loop Inv-places μ-places) (search) .args .text .now in
+    let pattern = the (tie.Start Inv-loop μ-loop Inv-places μ-places) (search) .args .pattern .now in
+    let at = the (tie.At-places Inv-loop μ-loop Inv-places μ-places) (search) .places .place in
     let whole : begins pattern (drop at text) ≡ true =
     c .before .loop .inv .2 ∙ rw (c .if2 .taken) (begins-done pattern (drop (at + length pattern) text)) in
     omega (arith, place-here pattern (drop at text) (omega arith) whole)
@@ -99,22 +76,5 @@ returns-2 c =
 pub find-plain-spec : {M : Type 1} → statement M
 find-plain-spec =
     tie.close
-    (tie.spec
-    Inv-loop
-    μ-loop
-    Inv-places
-    μ-places
-    places-holds
-    sub-if1
-    loop-holds
-    add-if3
-    shared-slice-read-if3
-    shared-slice-read-if3-2
-    add-k
-    loop-less
-    loop-again
-    add-place
-    places-less
-    places-again
-    returns
-    returns-2)
+    (tie.spec Inv-loop μ-loop Inv-places μ-places places-holds (λ c. search needs) loop-holds (λ c. search needs) (λ c. search needs)
+    (λ c. search needs) (λ c. search needs) (λ c. search needs) loop-again (λ c. search needs) (λ c. search needs) places-again returns returns-2)

@@ -8,6 +8,7 @@ use native.Mathlib.Omega.{arith}
 use lib.ListN.{length, drop, getD}
 use borrow.Author.Needs.{needs}
 use lib.Dec.{eqb}
+use Rattle.format.proofs.Typed.{the}
 use Rattle.sections.specs.Block.{near}
 use Rattle.sections.proofs.Blocks.{apart, near-next, near-end, low-less, low-kept}
 use Rattle.sections.proofs.search.near_in.Statement.{statement}
@@ -22,31 +23,19 @@ abbrev μ-loop : tie.MeasureT-loop
 loop-holds : tie.Need-loop-holds Inv-loop μ-loop
 loop-holds c = (omega arith, refl)
 
-shared-slice-read-differ : tie.Need-shared-slice-read-differ Inv-loop μ-loop
-shared-slice-read-differ c = search needs
-
-shared-slice-read-differ-2 : tie.Need-shared-slice-read-differ-2 Inv-loop μ-loop
-shared-slice-read-differ-2 c = search needs
-
-add-k : tie.Need-add-k Inv-loop μ-loop
-add-k c = search needs
-
-loop-less : tie.Need-loop-less Inv-loop μ-loop
-loop-less c = search needs
-
 loop-again : tie.Need-loop-again Inv-loop μ-loop
 loop-again c =
-    let at = c .before .before .before .before .before .args in
+    let at = the (tie.Start Inv-loop μ-loop) (search) .args in
     let s = at .text .now in
     let t = at .behind .now in
     let a = at .first in
     let z = at .last in
-    let k = c .before .before .before .before .loop .k in
-    let low = c .before .before .before .before .loop .low in
+    let k = the (tie.At-loop Inv-loop μ-loop) (search) .loop .k in
+    let low = the (tie.At-loop Inv-loop μ-loop) (search) .loop .low in
     let d = apart (getD s k 0) a (getD t k 0) z in
     let rest = near a z (drop (k + 1) s) (drop (k + 1) t) in
     let step : near a z s t ≡ (eqb low 0 || (eqb d 0 || rest)) =
-    c .before .before .before .before .loop .inv .1 ∙ ap (λ (r : Bool). eqb low 0 || r) (near-next a z s t k (omega arith) (omega arith)) in (
+    the (tie.At-loop Inv-loop μ-loop) (search) .loop .inv .1 ∙ ap (λ (r : Bool). eqb low 0 || r) (near-next a z s t k (omega arith) (omega arith)) in (
       omega arith,
       ⊎-elim (λ w. step ∙ low-less low d rest (w .0 .taken) ∙ ap (λ (n : ℕ). eqb n 0 || rest) (sym (w .1)))
           (λ w. step ∙ low-kept low d rest (w .0 .left) ∙ ap (λ (n : ℕ). eqb n 0 || rest) (sym (w .1)))
@@ -55,20 +44,11 @@ loop-again c =
 
 returns : tie.Need-returns Inv-loop μ-loop
 returns c =
-    let at = c .before .before .args in
+    let at = the (tie.Start Inv-loop μ-loop) (search) .args in
     let k : length (at .text .now) ≡ c .before .loop .k = omega arith in
     sym (c .before .loop .inv .1 ∙ rw (sym k, near-end (at .first) (at .last) (at .text .now)) (or-false (eqb (c .before .loop .low) 0)))
 
 pub near-in-spec : {M : Type 1} → statement M
 near-in-spec =
     tie.close
-    (tie.spec
-    Inv-loop
-    μ-loop
-    loop-holds
-    shared-slice-read-differ
-    shared-slice-read-differ-2
-    add-k
-    loop-less
-    loop-again
-    returns)
+    (tie.spec Inv-loop μ-loop loop-holds (λ c. search needs) (λ c. search needs) (λ c. search needs) (λ c. search needs) loop-again returns)

@@ -4,36 +4,31 @@ use native.Mathlib.Omega.{arith}
 use lib.ListN.{length}
 use borrow.Author.Needs.{needs}
 use Rattle.format.specs.Bytes.{texts}
+use Rattle.format.proofs.Typed.{the}
 use Rattle.showing.proofs.Puts.{puts, puts-as}
 use Rattle.showing.specs.Words.{lined, reasons, reason}
 use Rattle.showing.proofs.Rows.{reason-line, reason-short}
 use Rattle.showing.proofs.words.put_reason.Statement.{statement}
 use Rattle.showing.proofs.words.put_reason.Tie as tie
 
-slice-aggregate-line : tie.Need-slice-aggregate-line
-slice-aggregate-line c = search needs
-
-words-are : (c : tie.After-line) → c .line .result .now ≡ reason (c .before .before .before .args .clause)
+words-are : (c : tie.After-line) → c .line .result .now ≡ reason (the tie.Start (search) .args .clause)
 unfolding lined reasons texts
-words-are c = c .line .ensures ∙ reason-line (c .before .before .before .args .clause)
+words-are c = c .line .ensures ∙ reason-line (the tie.Start (search) .args .clause)
 
 line-requires : tie.Need-line-requires
 line-requires c κs = tt
 
 put-requires : tie.Need-put-requires
 put-requires c κs =
-    let start = c .before .before .before .before in
-    omega (arith, ap length (words-are (c .before)), reason-short (start .args .clause), start .pre)
-
-same-length : tie.Need-same-length
-same-length c = search needs
+    let start : tie.Start = search in
+    omega (arith, ap length (words-are (search)), reason-short (start .args .clause), start .pre)
 
 returns : tie.Need-returns
 returns c =
-    let args = c .before .before .before .before .before .before .before .args in
-    puts-as (reason (args .clause)) 80 (words-are (c .before .before .before .before)) (omega arith)
-    (puts (c .before .before .before .before .line .result .now) 80 (omega (arith, ap length (words-are (c .before .before .before .before)), reason-short (args .clause))) (c .before .before .put .ensures))
+    let args = the tie.Start (search) .args in
+    puts-as (reason (args .clause)) 80 (words-are (search)) (omega arith)
+    (puts (the tie.After-line (search) .line .result .now) 80 (omega (arith, ap length (words-are (search)), reason-short (args .clause))) (the tie.After-put (search) .put .ensures))
 
 pub put-reason-spec : {M : Type 1} → statement M
 put-reason-spec =
-    tie.close (tie.spec slice-aggregate-line line-requires put-requires same-length returns)
+    tie.close (tie.spec (λ c. search needs) line-requires put-requires (λ c. search needs) returns)

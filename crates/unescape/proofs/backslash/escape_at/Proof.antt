@@ -2,45 +2,27 @@
 use mathlib.Core.Path.{sym, _∙_}
 use native.Mathlib.Omega.{arith}
 use borrow.Author.Needs.{needs}
+use Rattle.format.proofs.Typed.{the}
 use Rattle.unescape.proofs.Escapes.{at-end, at-long, at-short}
 use Rattle.unescape.proofs.backslash.escape_at.Statement.{statement}
 use Rattle.unescape.proofs.backslash.escape_at.Tie as tie
 
 returns : tie.Need-returns
 returns c =
-    let args = c .before .before .args in
+    let args = the tie.Start (search) .args in
     (sym (at-end (args .s .now) (args .i) (omega arith)), omega arith)
-
-shared-slice-read-c : tie.Need-shared-slice-read-c
-shared-slice-read-c c = search needs
-
-add-long-escape : tie.Need-add-long-escape
-add-long-escape c = search needs
-
-long-escape-requires : tie.Need-long-escape-requires
-long-escape-requires c κs = search needs
 
 returns-2 : tie.Need-returns-2
 returns-2 c =
-    let args = c .before .before .before .before .before .args in
+    let args = the tie.Start (search) .args in
     (c .long-escape .ensures .0 ∙ sym (at-long (args .s .now) (args .i) (omega arith) (c .before .if2 .taken)), c .long-escape .ensures .1)
-
-short-escape-requires : tie.Need-short-escape-requires
-short-escape-requires c κs = search needs
 
 returns-3 : tie.Need-returns-3
 returns-3 c =
-    let args = c .before .before .before .before .before .args in
+    let args = the tie.Start (search) .args in
     (c .short-escape .ensures .0 ∙ sym (at-short (args .s .now) (args .i) (omega arith) (c .before .if2 .left)), c .short-escape .ensures .1)
 
 pub escape-at-spec : {M : Type 1} → statement M
 escape-at-spec =
     tie.close
-    (tie.spec
-    returns
-    shared-slice-read-c
-    add-long-escape
-    long-escape-requires
-    returns-2
-    short-escape-requires
-    returns-3)
+    (tie.spec returns (λ c. search needs) (λ c. search needs) (λ c κs. search needs) returns-2 (λ c κs. search needs) returns-3)

@@ -7,17 +7,12 @@ use borrow.Author.Needs.{needs}
 use Rattle.format.specs.Bytes.{Bytes, pasted}
 use Rattle.format.proofs.Characters.Scalars.{encoding-one, encoding-two, encoding-three}
 use Rattle.octets.proofs.Paste.{pasted-one, stores-two, stores-three}
+use Rattle.format.proofs.Typed.{the}
 use Rattle.unescape.proofs.coding.put_code.Statement.{statement}
 use Rattle.unescape.proofs.coding.put_code.Tie as tie
 
-cast-out : tie.Need-cast-out
-cast-out c = search needs
-
 slice-write-out : tie.Need-slice-write-out
 slice-write-out c = let n = c .before .args .n in omega (arith, ap length (encoding-one n (omega arith)))
-
-same-length : tie.Need-same-length
-same-length c = search needs
 
 returns : tie.Need-returns
 returns c =
@@ -26,71 +21,32 @@ returns c =
     let e = encoding-one n (omega arith) in
     pasted-one (args .at) n (args .out .now) (omega (arith, ap length e)) ∙ ap (λ (l : Bytes). pasted (args .at) l (args .out .now)) (sym e)
 
-add-low : tie.Need-add-low
-add-low c = search needs
-
-cast-low : tie.Need-cast-low
-cast-low c = search needs
-
-add-out : tie.Need-add-out
-add-out c = search needs
-
-cast-out-2 : tie.Need-cast-out-2
-cast-out-2 c = search needs
-
 slice-write-out-2 : tie.Need-slice-write-out-2
-slice-write-out-2 c = let n = c .before .before .args .n in omega (arith, ap length (encoding-two n (omega arith) (omega arith)))
-
-add-out-2 : tie.Need-add-out-2
-add-out-2 c = search needs
+slice-write-out-2 c = let n = the tie.Start (search) .args .n in omega (arith, ap length (encoding-two n (omega arith) (omega arith)))
 
 slice-write-out-3 : tie.Need-slice-write-out-3
-slice-write-out-3 c = simp length-set (let n = c .before .before .args .n in omega (arith, ap length (encoding-two n (omega arith) (omega arith))))
-
-same-length-2 : tie.Need-same-length-2
-same-length-2 c = search needs
+slice-write-out-3 c = simp length-set (let n = the tie.Start (search) .args .n in omega (arith, ap length (encoding-two n (omega arith) (omega arith))))
 
 returns-2 : tie.Need-returns-2
 returns-2 c =
-    let args = c .before .before .args in
+    let args = the tie.Start (search) .args in
     let n = args .n in
     let e = encoding-two n (omega arith) (omega arith) in
     stores-two (args .out .now) (args .at) (192 + n / 64) (128 + n % 64) (omega (arith, ap length e))
     ∙ ap (λ (l : Bytes). pasted (args .at) l (args .out .now)) (sym e)
 
-add-out-3 : tie.Need-add-out-3
-add-out-3 c = search needs
-
-cast-out-3 : tie.Need-cast-out-3
-cast-out-3 c = search needs
-
 slice-write-out-4 : tie.Need-slice-write-out-4
-slice-write-out-4 c = let n = c .before .before .args .n in omega (arith, ap length (encoding-three n (omega arith) (omega arith)))
-
-add-out-4 : tie.Need-add-out-4
-add-out-4 c = search needs
-
-cast-out-4 : tie.Need-cast-out-4
-cast-out-4 c = search needs
-
-add-out-5 : tie.Need-add-out-5
-add-out-5 c = search needs
+slice-write-out-4 c = let n = the tie.Start (search) .args .n in omega (arith, ap length (encoding-three n (omega arith) (omega arith)))
 
 slice-write-out-5 : tie.Need-slice-write-out-5
-slice-write-out-5 c = simp length-set (let n = c .before .before .args .n in omega (arith, ap length (encoding-three n (omega arith) (omega arith))))
-
-add-out-6 : tie.Need-add-out-6
-add-out-6 c = search needs
+slice-write-out-5 c = simp length-set (let n = the tie.Start (search) .args .n in omega (arith, ap length (encoding-three n (omega arith) (omega arith))))
 
 slice-write-out-6 : tie.Need-slice-write-out-6
-slice-write-out-6 c = simp length-set (let n = c .before .before .args .n in omega (arith, ap length (encoding-three n (omega arith) (omega arith))))
-
-same-length-3 : tie.Need-same-length-3
-same-length-3 c = search needs
+slice-write-out-6 c = simp length-set (let n = the tie.Start (search) .args .n in omega (arith, ap length (encoding-three n (omega arith) (omega arith))))
 
 returns-3 : tie.Need-returns-3
 returns-3 c =
-    let args = c .before .before .args in
+    let args = the tie.Start (search) .args in
     let n = args .n in
     let e = encoding-three n (omega arith) (omega arith) in
     stores-three (args .out .now) (args .at) (224 + n / 4096) (128 + n / 64 % 64) (128 + n % 64) (omega (arith, ap length e))
@@ -99,28 +55,7 @@ returns-3 c =
 pub put-code-spec : {M : Type 1} → statement M
 put-code-spec =
     tie.close
-    (tie.spec
-    cast-out
-    slice-write-out
-    same-length
-    returns
-    add-low
-    cast-low
-    add-out
-    cast-out-2
-    slice-write-out-2
-    add-out-2
-    slice-write-out-3
-    same-length-2
-    returns-2
-    add-out-3
-    cast-out-3
-    slice-write-out-4
-    add-out-4
-    cast-out-4
-    add-out-5
-    slice-write-out-5
-    add-out-6
-    slice-write-out-6
-    same-length-3
-    returns-3)
+    (tie.spec (λ c. search needs) slice-write-out (λ c. search needs) returns (λ c. search needs) (λ c. search needs) (λ c. search needs)
+    (λ c. search needs) slice-write-out-2 (λ c. search needs) slice-write-out-3 (λ c. search needs) returns-2 (λ c. search needs) (λ c. search needs)
+    slice-write-out-4 (λ c. search needs) (λ c. search needs) (λ c. search needs) slice-write-out-5 (λ c. search needs) slice-write-out-6
+    (λ c. search needs) returns-3)

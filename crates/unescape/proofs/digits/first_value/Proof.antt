@@ -8,11 +8,8 @@ use Rattle.unescape.proofs.digits.first_value.Tie as tie
 returns : tie.Need-returns
 returns c = rw (eq-eqb _ 43 (c .if1 .taken)) refl
 
-digit-value-requires : tie.Need-digit-value-requires
-digit-value-requires c κs = search needs
-
 returns-2 : tie.Need-returns-2
 returns-2 c = rw (ne-eqb _ 43 (c .before .if1 .left)) (c .digit-value .ensures)
 
 pub first-value-spec : {M : Type 1} → statement M
-first-value-spec = tie.close (tie.spec returns digit-value-requires returns-2)
+first-value-spec = tie.close (tie.spec returns (λ c κs. search needs) returns-2)

@@ -3,65 +3,46 @@ use mathlib.Core.Path.{sym, _∙_}
 use native.Mathlib.Omega.{arith}
 use lib.Seq.{length-take-le}
 use borrow.Author.Needs.{needs}
+use Rattle.format.proofs.Typed.{the}
 use Rattle.unicode.proofs.ClearEnds.{empty-front, front-lost, front-kept, front-last}
 use Rattle.unicode.proofs.ends.front_clear.Statement.{statement}
 use Rattle.unicode.proofs.ends.front_clear.Tie as tie
 
 returns : tie.Need-returns
-returns c = empty-front (c .before .before .args .s .now) (c .if1 .taken)
+returns c = empty-front (the tie.Start (search) .args .s .now) (c .if1 .taken)
 
 slice-aggregate-is-lost : tie.Need-slice-aggregate-is-lost
-slice-aggregate-is-lost c = sym (length-take-le 1 (c .before .before .before .args .s .now) (omega arith))
-
-is-lost-requires : tie.Need-is-lost-requires
-is-lost-requires c κs = search needs
+slice-aggregate-is-lost c = sym (length-take-le 1 (the tie.Start (search) .args .s .now) (omega arith))
 
 returns-2 : tie.Need-returns-2
-returns-2 c = front-lost (c .before .before .before .before .before .args .s .now) 1 (sym (c .before .is-lost .ensures) ∙ c .if2 .taken)
+returns-2 c = front-lost (the tie.Start (search) .args .s .now) 1 (sym (c .before .is-lost .ensures) ∙ c .if2 .taken)
 
 returns-3 : tie.Need-returns-3
 returns-3 c =
-    let u = c .before .before .before .before .before .before .args .s .now in
-    front-kept u (omega arith) (sym (c .before .before .is-lost .ensures) ∙ c .before .if2 .left) (λ l. absurd (omega arith)) (λ l. absurd (omega arith))
+    let u = the tie.Start (search) .args .s .now in
+    front-kept u (omega arith) (sym (the tie.After-is-lost (search) .is-lost .ensures) ∙ c .before .if2 .left) (λ l. absurd (omega arith)) (λ l. absurd (omega arith))
 
 slice-aggregate-is-lost-2 : tie.Need-slice-aggregate-is-lost-2
-slice-aggregate-is-lost-2 c = sym (length-take-le 2 (c .before .before .before .before .before .before .before .args .s .now) (omega arith))
-
-is-lost-requires-2 : tie.Need-is-lost-requires-2
-is-lost-requires-2 c κs = search needs
+slice-aggregate-is-lost-2 c = sym (length-take-le 2 (the tie.Start (search) .args .s .now) (omega arith))
 
 returns-4 : tie.Need-returns-4
-returns-4 c = front-lost (c .before .before .before .before .before .before .before .before .before .args .s .now) 2 (sym (c .before .is-lost2 .ensures) ∙ c .if4 .taken)
+returns-4 c = front-lost (the tie.Start (search) .args .s .now) 2 (sym (c .before .is-lost2 .ensures) ∙ c .if4 .taken)
 
 returns-5 : tie.Need-returns-5
 returns-5 c =
-    let u = c .before .before .before .before .before .before .before .before .before .before .args .s .now in
-    front-kept u (omega arith) (sym (c .before .before .before .before .before .before .is-lost .ensures) ∙ c .before .before .before .before .before .if2 .left) (λ l. sym (c .before .before .is-lost2 .ensures) ∙ c .before .if4 .left) (λ l. absurd (omega arith))
+    let u = the tie.Start (search) .args .s .now in
+    front-kept u (omega arith) (sym (the tie.After-is-lost (search) .is-lost .ensures) ∙ the tie.Else2 (search) .if2 .left) (λ l. sym (the tie.After-is-lost2 (search) .is-lost2 .ensures) ∙ c .before .if4 .left) (λ l. absurd (omega arith))
 
 slice-aggregate-is-lost-3 : tie.Need-slice-aggregate-is-lost-3
-slice-aggregate-is-lost-3 c = sym (length-take-le 3 (c .before .before .before .before .before .before .before .before .before .before .before .args .s .now) (omega arith))
-
-is-lost-requires-3 : tie.Need-is-lost-requires-3
-is-lost-requires-3 c κs = search needs
+slice-aggregate-is-lost-3 c = sym (length-take-le 3 (the tie.Start (search) .args .s .now) (omega arith))
 
 returns-6 : tie.Need-returns-6
 returns-6 c =
-    let u = c .before .before .before .before .before .before .before .before .before .before .before .before .args .s .now in
-    front-last u (omega arith) (sym (c .before .before .before .before .before .before .before .before .is-lost .ensures) ∙ c .before .before .before .before .before .before .before .if2 .left) (sym (c .before .before .before .before .is-lost2 .ensures) ∙ c .before .before .before .if4 .left) (c .is-lost3 .result) (c .is-lost3 .ensures)
+    let u = the tie.Start (search) .args .s .now in
+    front-last u (omega arith) (sym (the tie.After-is-lost (search) .is-lost .ensures) ∙ the tie.Else2 (search) .if2 .left) (sym (the tie.After-is-lost2 (search) .is-lost2 .ensures) ∙ the tie.Else4 (search) .if4 .left) (c .is-lost3 .result) (c .is-lost3 .ensures)
 
 pub front-clear-spec : {M : Type 1} → statement M
 front-clear-spec =
     tie.close
-    (tie.spec
-    returns
-    slice-aggregate-is-lost
-    is-lost-requires
-    returns-2
-    returns-3
-    slice-aggregate-is-lost-2
-    is-lost-requires-2
-    returns-4
-    returns-5
-    slice-aggregate-is-lost-3
-    is-lost-requires-3
-    returns-6)
+    (tie.spec returns slice-aggregate-is-lost (λ c κs. search needs) returns-2 returns-3 slice-aggregate-is-lost-2 (λ c κs. search needs) returns-4
+    returns-5 slice-aggregate-is-lost-3 (λ c κs. search needs) returns-6)

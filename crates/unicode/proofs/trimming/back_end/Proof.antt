@@ -9,6 +9,7 @@ use lib.ListN.{length, take}
 use borrow.Author.Needs.{needs}
 use lib.Seq.{take-length, length-take-le}
 use Rattle.format.specs.Characters.{chars, isWhite, dropBack, flat}
+use Rattle.format.proofs.Typed.{the}
 use Rattle.unicode.proofs.Stripping.{back-inside, back-on, back-stop}
 use Rattle.unicode.proofs.trimming.back_end.Statement.{statement}
 use Rattle.unicode.proofs.trimming.back_end.Tie as tie
@@ -23,22 +24,19 @@ loop-holds : tie.Need-loop-holds Inv-loop μ-loop
 loop-holds c = (omega arith, ap (λ (x : List ℕ). dropBack isWhite (chars x)) (sym (take-length (c .before .args .s .now))))
 
 slice-aggregate-white-back : tie.Need-slice-aggregate-white-back Inv-loop μ-loop
-slice-aggregate-white-back c = sym (length-take-le (c .before .loop .end) (c .before .before .before .args .s .now) (c .before .loop .inv .0))
-
-white-back-requires : tie.Need-white-back-requires Inv-loop μ-loop
-white-back-requires c κs = search needs
+slice-aggregate-white-back c = sym (length-take-le (c .before .loop .end) (the (tie.Start Inv-loop μ-loop) (search) .args .s .now) (c .before .loop .inv .0))
 
 returns : tie.Need-returns Inv-loop μ-loop
 returns c =
     let step = c .before .white-back in
-    let s = c .before .before .before .before .before .args .s .now in
-    let loop = c .before .before .before .loop in
+    let s = the (tie.Start Inv-loop μ-loop) (search) .args .s .now in
+    let loop = the (tie.At-loop Inv-loop μ-loop) (search) .loop in
     (loop .inv .0, ap flat (loop .inv .1) ∙ back-stop s (loop .end) (step .result) (loop .inv .0) (step .ensures) (c .if1 .taken))
 
-inside : (c : tie.Else1 Inv-loop μ-loop) → c .before .white-back .result ≤ c .before .before .before .loop .end
+inside : (c : tie.Else1 Inv-loop μ-loop) → c .before .white-back .result ≤ the (tie.At-loop Inv-loop μ-loop) (search) .loop .end
 inside c =
-    let loop = c .before .before .before .loop in
-    back-inside (c .before .before .before .before .before .args .s .now) (loop .end) (c .before .white-back .result) (loop .inv .0) (c .before .white-back .ensures)
+    let loop = the (tie.At-loop Inv-loop μ-loop) (search) .loop in
+    back-inside (the (tie.Start Inv-loop μ-loop) (search) .args .s .now) (loop .end) (c .before .white-back .result) (loop .inv .0) (c .before .white-back .ensures)
 
 sub-end : tie.Need-sub-end Inv-loop μ-loop
 sub-end c = omega (arith, inside c)
@@ -49,20 +47,11 @@ loop-less c = omega (arith, inside c)
 loop-again : tie.Need-loop-again Inv-loop μ-loop
 loop-again c =
     let step = c .before .white-back in
-    let s = c .before .before .before .before .before .args .s .now in
-    let loop = c .before .before .before .loop in
+    let s = the (tie.Start Inv-loop μ-loop) (search) .args .s .now in
+    let loop = the (tie.At-loop Inv-loop μ-loop) (search) .loop in
     (omega (arith, loop .inv .0), loop .inv .1 ∙ back-on s (loop .end) (step .result) (loop .inv .0) (step .ensures) (c .if1 .left))
 
 pub back-end-spec : {M : Type 1} → statement M
 back-end-spec =
     tie.close
-    (tie.spec
-    Inv-loop
-    μ-loop
-    loop-holds
-    slice-aggregate-white-back
-    white-back-requires
-    returns
-    sub-end
-    loop-less
-    loop-again)
+    (tie.spec Inv-loop μ-loop loop-holds slice-aggregate-white-back (λ c κs. search needs) returns sub-end loop-less loop-again)

@@ -6,6 +6,7 @@ use Prim.Native.Nat.{_-_, _≤_, max}
 use native.Mathlib.Omega.{arith}
 use lib.ListN.{length, drop}
 use borrow.Author.Needs.{needs}
+use Rattle.format.proofs.Typed.{the}
 use Rattle.utf8.specs.Blocks.{largestOf}
 use Rattle.utf8.proofs.Answers.{largest-more, largest-none}
 use Rattle.utf8.proofs.blocks.largest.Statement.{statement}
@@ -20,28 +21,19 @@ abbrev μ-loop : tie.MeasureT-loop
 loop-holds : tie.Need-loop-holds Inv-loop μ-loop
 loop-holds c = (refl, omega arith, omega arith)
 
-shared-slice-read-b : tie.Need-shared-slice-read-b Inv-loop μ-loop
-shared-slice-read-b c = search needs
-
-add-k : tie.Need-add-k Inv-loop μ-loop
-add-k c = search needs
-
-loop-less : tie.Need-loop-less Inv-loop μ-loop
-loop-less c = search needs
-
 loop-again : tie.Need-loop-again Inv-loop μ-loop
 loop-again c = (
-  c .before .before .before .loop .inv .0,
+  the (tie.At-loop Inv-loop μ-loop) (search) .loop .inv .0,
   omega arith,
-  largest-more (c .before .before .before .before .args .part .now) (c .before .before .before .loop .k) (c .before .before .before .loop .top) (c .if1 .top) (omega arith)
+  largest-more (the (tie.Start Inv-loop μ-loop) (search) .args .part .now) (the (tie.At-loop Inv-loop μ-loop) (search) .loop .k) (the (tie.At-loop Inv-loop μ-loop) (search) .loop .top) (c .if1 .top) (omega arith)
       (⊎-elim (λ w. omega arith) (λ w. omega arith) (c .if1 .came))
-      (c .before .before .before .loop .inv .2),
+      (the (tie.At-loop Inv-loop μ-loop) (search) .loop .inv .2),
 )
 
 returns : tie.Need-returns Inv-loop μ-loop
-returns c = omega (arith, c .before .loop .inv .2, largest-none (c .before .before .args .part .now) (c .before .loop .k) (omega arith))
+returns c = omega (arith, c .before .loop .inv .2, largest-none (the (tie.Start Inv-loop μ-loop) (search) .args .part .now) (c .before .loop .k) (omega arith))
 
 pub largest-spec : {M : Type 1} → statement M
 largest-spec =
     tie.close
-    (tie.spec Inv-loop μ-loop loop-holds shared-slice-read-b add-k loop-less loop-again returns)
+    (tie.spec Inv-loop μ-loop loop-holds (λ c. search needs) (λ c. search needs) (λ c. search needs) loop-again returns)

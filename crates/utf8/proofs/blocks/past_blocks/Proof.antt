@@ -5,6 +5,7 @@ use mathlib.Core.Path.{sym}
 use Prim.Native.Nat.{_-_, _≤_}
 use native.Mathlib.Omega.{arith}
 use lib.ListN.{length}
+use Rattle.format.proofs.Typed.{the}
 use Rattle.utf8.proofs.Passed.{block-end-passed}
 use Rattle.utf8.proofs.Answers.{Left, left-all, left-short, left-stay, left-on}
 use Rattle.utf8.proofs.blocks.past_blocks.Statement.{statement}
@@ -27,39 +28,30 @@ past-block-requires c κs = omega (arith, c .before .loop .inv .0)
 
 returns : tie.Need-returns Inv-loop μ-loop
 returns c =
-    let a = c .before .before .before .before .before .args in
-    let loop = c .before .before .before .loop in
+    let a = the (tie.Start Inv-loop μ-loop) (search) .args in
+    let loop = the (tie.At-loop Inv-loop μ-loop) (search) .loop in
     sym (left-stay (a .s .now) (a .from) (loop .at) (c .before .past-block .result) (loop .inv .1) (c .before .past-block .ensures) (c .if1 .taken))
 
 loop-less : tie.Need-loop-less Inv-loop μ-loop
 loop-less c =
-    let a = c .before .before .before .before .before .args in
-    let loop = c .before .before .before .loop in
+    let a = the (tie.Start Inv-loop μ-loop) (search) .args in
+    let loop = the (tie.At-loop Inv-loop μ-loop) (search) .loop in
     let p = block-end-passed (a .s .now) (loop .at) (omega arith) in
     omega (arith, p .onward, p .inside, c .before .past-block .ensures)
 
 loop-again : tie.Need-loop-again Inv-loop μ-loop
 loop-again c =
-    let a = c .before .before .before .before .before .args in
-    let loop = c .before .before .before .loop in
+    let a = the (tie.Start Inv-loop μ-loop) (search) .args in
+    let loop = the (tie.At-loop Inv-loop μ-loop) (search) .loop in
     let p = block-end-passed (a .s .now) (loop .at) (omega arith) in (
       omega (arith, p .inside, c .before .past-block .ensures),
       left-on (a .s .now) (a .from) (loop .at) (c .before .past-block .result) (loop .inv .1) (omega arith) (c .before .past-block .ensures) (c .if1 .left),
     )
 
 returns-2 : tie.Need-returns-2 Inv-loop μ-loop
-returns-2 c = let a = c .before .before .before .args in sym (left-short (a .s .now) (a .from) (c .before .loop .at) (c .before .loop .inv .1) (omega arith))
+returns-2 c = let a = the (tie.Start Inv-loop μ-loop) (search) .args in sym (left-short (a .s .now) (a .from) (c .before .loop .at) (c .before .loop .inv .1) (omega arith))
 
 pub past-blocks-spec : {M : Type 1} → statement M
 past-blocks-spec =
     tie.close
-    (tie.spec
-    Inv-loop
-    μ-loop
-    loop-holds
-    sub-loop
-    past-block-requires
-    returns
-    loop-less
-    loop-again
-    returns-2)
+    (tie.spec Inv-loop μ-loop loop-holds sub-loop past-block-requires returns loop-less loop-again returns-2)

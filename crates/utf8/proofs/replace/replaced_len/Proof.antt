@@ -7,6 +7,7 @@ use native.Mathlib.Omega.{arith}
 use lib.ListN.{length, drop}
 use borrow.Author.Needs.{needs}
 use Rattle.format.specs.Characters.{replaced}
+use Rattle.format.proofs.Typed.{the}
 use Rattle.utf8.proofs.Replacing.{Run, Ill, run-inside, run-count, run-last, ill-inside, ill-count}
 use Rattle.utf8.proofs.replace.replaced_len.Statement.{statement}
 use Rattle.utf8.proofs.replace.replaced_len.Tie as tie
@@ -20,13 +21,10 @@ abbrev μ-loop : tie.MeasureT-loop
 loop-holds : tie.Need-loop-holds Inv-loop μ-loop
 loop-holds c = (omega arith, omega arith, omega arith)
 
-utf8-end-requires : tie.Need-utf8-end-requires Inv-loop μ-loop
-utf8-end-requires c κs = search needs
-
-run : (c : tie.After-utf8-end Inv-loop μ-loop) → Run (c .before .before .before .args .s .now) (c .before .loop .at) (c .utf8-end .result)
+run : (c : tie.After-utf8-end Inv-loop μ-loop) → Run (the (tie.Start Inv-loop μ-loop) (search) .args .s .now) (c .before .loop .at) (c .utf8-end .result)
 run c = record { starts = c .before .loop .inv .0; ends = c .utf8-end .ensures }
 
-ill : (c : tie.After-subpart-len Inv-loop μ-loop) → Ill (c .before .before .before .before .before .args .s .now) (c .before .before .utf8-end .result) (c .subpart-len .result)
+ill : (c : tie.After-subpart-len Inv-loop μ-loop) → Ill (the (tie.Start Inv-loop μ-loop) (search) .args .s .now) (the (tie.After-utf8-end Inv-loop μ-loop) (search) .utf8-end .result) (c .subpart-len .result)
 ill c = record { more = c .before .if1 .left; subpart = c .subpart-len .ensures }
 
 sub-n : tie.Need-sub-n Inv-loop μ-loop
@@ -36,41 +34,26 @@ add-n : tie.Need-add-n Inv-loop μ-loop
 add-n c = omega (arith, run-inside (run c) .1, c .before .loop .inv .2)
 
 returns : tie.Need-returns Inv-loop μ-loop
-returns c = omega (arith, c .before .before .loop .inv .1, run-count (run (c .before)), ap length (run-last (run (c .before)) (c .if1 .taken)))
+returns c = omega (arith, the (tie.At-loop Inv-loop μ-loop) (search) .loop .inv .1, run-count (run (search)), ap length (run-last (run (search)) (c .if1 .taken)))
 
 add-n-2 : tie.Need-add-n-2 Inv-loop μ-loop
-add-n-2 c = omega (arith, run-inside (run (c .before)) .1, c .before .before .loop .inv .2)
-
-subpart-len-requires : tie.Need-subpart-len-requires Inv-loop μ-loop
-subpart-len-requires c κs = search needs
+add-n-2 c = omega (arith, run-inside (run (search)) .1, the (tie.At-loop Inv-loop μ-loop) (search) .loop .inv .2)
 
 add-at : tie.Need-add-at Inv-loop μ-loop
-add-at c = omega (arith, ill-inside (run (c .before .before)) (ill c) .1)
+add-at c = omega (arith, ill-inside (run (search)) (ill c) .1)
 
 loop-less : tie.Need-loop-less Inv-loop μ-loop
 loop-less c =
-    omega (arith, run-inside (run (c .before .before)) .0, ill-inside (run (c .before .before)) (ill c) .0, ill-inside (run (c .before .before)) (ill c) .1)
+    omega (arith, run-inside (run (search)) .0, ill-inside (run (search)) (ill c) .0, ill-inside (run (search)) (ill c) .1)
 
 loop-again : tie.Need-loop-again Inv-loop μ-loop
 loop-again c = (
-  ill-inside (run (c .before .before)) (ill c) .1,
-  omega (arith, c .before .before .before .loop .inv .1, run-count (run (c .before .before)), ill-count (run (c .before .before)) (ill c)),
-  omega (arith, c .before .before .before .loop .inv .2, run-inside (run (c .before .before)) .0, ill-inside (run (c .before .before)) (ill c) .0),
+  ill-inside (run (search)) (ill c) .1,
+  omega (arith, the (tie.At-loop Inv-loop μ-loop) (search) .loop .inv .1, run-count (run (search)), ill-count (run (search)) (ill c)),
+  omega (arith, the (tie.At-loop Inv-loop μ-loop) (search) .loop .inv .2, run-inside (run (search)) .0, ill-inside (run (search)) (ill c) .0),
 )
 
 pub replaced-len-spec : {M : Type 1} → statement M
 replaced-len-spec =
     tie.close
-    (tie.spec
-    Inv-loop
-    μ-loop
-    loop-holds
-    utf8-end-requires
-    sub-n
-    add-n
-    returns
-    add-n-2
-    subpart-len-requires
-    add-at
-    loop-less
-    loop-again)
+    (tie.spec Inv-loop μ-loop loop-holds (λ c κs. search needs) sub-n add-n returns add-n-2 (λ c κs. search needs) add-at loop-less loop-again)

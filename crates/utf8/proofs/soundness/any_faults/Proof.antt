@@ -6,6 +6,7 @@ use mathlib.Core.Logic.{⊎-elim, inl, inr}
 use Prim.Native.Nat.{_-_, _≤_}
 use native.Mathlib.Omega.{arith}
 use borrow.Author.Needs.{needs}
+use Rattle.format.proofs.Typed.{the}
 use Rattle.utf8.proofs.Sound.{faults-more}
 use Rattle.utf8.specs.Sound.{bit, allSound}
 use Rattle.utf8.proofs.soundness.any_faults.Statement.{statement}
@@ -20,42 +21,12 @@ abbrev μ-loop : tie.MeasureT-loop
 loop-holds : tie.Need-loop-holds Inv-loop μ-loop
 loop-holds c = (omega arith, unfold allSound in refl)
 
-shared-slice-read-fault : tie.Need-shared-slice-read-fault Inv-loop μ-loop
-shared-slice-read-fault c = search needs
-
-add-fault : tie.Need-add-fault Inv-loop μ-loop
-add-fault c = search needs
-
-shared-slice-read-fault-2 : tie.Need-shared-slice-read-fault-2 Inv-loop μ-loop
-shared-slice-read-fault-2 c = search needs
-
-add-fault-2 : tie.Need-add-fault-2 Inv-loop μ-loop
-add-fault-2 c = search needs
-
-shared-slice-read-fault-3 : tie.Need-shared-slice-read-fault-3 Inv-loop μ-loop
-shared-slice-read-fault-3 c = search needs
-
-add-fault-3 : tie.Need-add-fault-3 Inv-loop μ-loop
-add-fault-3 c = search needs
-
-shared-slice-read-fault-4 : tie.Need-shared-slice-read-fault-4 Inv-loop μ-loop
-shared-slice-read-fault-4 c = search needs
-
-fault-requires : tie.Need-fault-requires Inv-loop μ-loop
-fault-requires c κs = search needs
-
-add-k : tie.Need-add-k Inv-loop μ-loop
-add-k c = search needs
-
-loop-less : tie.Need-loop-less Inv-loop μ-loop
-loop-less c = search needs
-
 loop-again : tie.Need-loop-again Inv-loop μ-loop
 loop-again c =
-    let loop = c .before .before .before .before .before .before .before .loop in (
+    let loop = the (tie.At-loop Inv-loop μ-loop) (search) .loop in (
       omega arith,
       faults-more (loop .worst) (c .before .fault .result) (c .if1 .worst) (⊎-elim (λ w. inl (omega arith, omega arith)) (λ w. inr (omega arith, omega arith)) (c .if1 .came))
-          (c .before .before .before .before .before .before .before .before .before .args .part .now) (loop .k)
+          (the (tie.Start Inv-loop μ-loop) (search) .args .part .now) (loop .k)
           (loop .inv .1)
           (c .before .fault .ensures),
     )
@@ -68,19 +39,5 @@ returns c =
 pub any-faults-spec : {M : Type 1} → statement M
 any-faults-spec =
     tie.close
-    (tie.spec
-    Inv-loop
-    μ-loop
-    loop-holds
-    shared-slice-read-fault
-    add-fault
-    shared-slice-read-fault-2
-    add-fault-2
-    shared-slice-read-fault-3
-    add-fault-3
-    shared-slice-read-fault-4
-    fault-requires
-    add-k
-    loop-less
-    loop-again
-    returns)
+    (tie.spec Inv-loop μ-loop loop-holds (λ c. search needs) (λ c. search needs) (λ c. search needs) (λ c. search needs) (λ c. search needs)
+    (λ c. search needs) (λ c. search needs) (λ c κs. search needs) (λ c. search needs) (λ c. search needs) loop-again returns)

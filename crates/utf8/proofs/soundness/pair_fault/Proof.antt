@@ -5,46 +5,41 @@ use mathlib.Core.Path.{_≡_, sym, ap, _∙_}
 use mathlib.Core.Bool.{not}
 use native.Mathlib.Omega.{arith}
 use borrow.Author.Needs.{needs}
+use Rattle.format.proofs.Typed.{the}
 use Rattle.utf8.specs.Sound.{bit}
 use Rattle.utf8.proofs.Sound.{pair-turn, pair-greatest, pair-never, pair-none}
 use Rattle.utf8.proofs.soundness.pair_fault.Statement.{statement}
 use Rattle.utf8.proofs.soundness.pair_fault.Tie as tie
 
-trails-requires : tie.Need-trails-requires
-trails-requires c κs = search needs
-
-owed-requires : tie.Need-owed-requires
-owed-requires c κs = search needs
-
 returns : tie.Need-returns
 returns c =
-    let a = c .before .before .before .args in
-    sym (ap (λ t. bit (not t)) (pair-turn (a .p1) (a .c) (λ e. omega (arith, c .before .before .trails .ensures, c .before .owed .ensures))))
+    let a = the tie.Start (search) .args in
+    sym (ap (λ t. bit (not t)) (pair-turn (a .p1) (a .c) (λ e. omega (arith, the tie.After-trails (search) .trails .ensures, c .before .owed .ensures))))
 
 returns-2 : tie.Need-returns-2
 returns-2 c =
-    let a = c .before .before .before .before .args in
+    let a = the tie.Start (search) .args in
     sym (ap (λ t. bit (not t)) (pair-greatest (a .p1) (a .c) (omega arith)))
 
 returns-3 : tie.Need-returns-3
 returns-3 c =
-    let a = c .before .before .before .before .before .args in
+    let a = the tie.Start (search) .args in
     sym (ap (λ t. bit (not t)) (pair-never (a .p1) (a .c) (omega arith) (omega arith)))
 
 returns-4 : tie.Need-returns-4
 returns-4 c =
-    let a = c .before .before .before .before .before .before .args in
+    let a = the tie.Start (search) .args in
     sym (ap (λ t. bit (not t)) (pair-never (a .p1) (a .c) (omega arith) (omega arith)))
 
 returns-5 : tie.Need-returns-5
 returns-5 c =
-    let a = c .before .before .before .before .before .before .args in
-    let t = c .before .before .before .before .before .trails in
-    let o = c .before .before .before .before .owed in
+    let a = the tie.Start (search) .args in
+    let t = the tie.After-trails (search) .trails in
+    let o = the tie.After-owed (search) .owed in
     let e : t .result ≡ o .result = omega arith in
     sym (ap (λ t. bit (not t)) (pair-none (a .p1) (a .c) (sym (t .ensures) ∙ e ∙ o .ensures) (λ x. omega arith) (λ x. omega arith) (omega arith)))
 
 pub pair-fault-spec : {M : Type 1} → statement M
 pair-fault-spec =
     tie.close
-    (tie.spec trails-requires owed-requires returns returns-2 returns-3 returns-4 returns-5)
+    (tie.spec (λ c κs. search needs) (λ c κs. search needs) returns returns-2 returns-3 returns-4 returns-5)

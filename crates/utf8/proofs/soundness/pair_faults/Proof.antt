@@ -6,6 +6,7 @@ use mathlib.Core.Logic.{⊎-elim, inl, inr}
 use Prim.Native.Nat.{_-_, _≤_}
 use native.Mathlib.Omega.{arith}
 use borrow.Author.Needs.{needs}
+use Rattle.format.proofs.Typed.{the}
 use Rattle.utf8.proofs.Sound.{pairs-more}
 use Rattle.utf8.specs.Sound.{bit, allPairs}
 use Rattle.utf8.proofs.soundness.pair_faults.Statement.{statement}
@@ -20,33 +21,12 @@ abbrev μ-loop : tie.MeasureT-loop
 loop-holds : tie.Need-loop-holds Inv-loop μ-loop
 loop-holds c = (omega arith, unfold allPairs in refl)
 
-add-pair-fault : tie.Need-add-pair-fault Inv-loop μ-loop
-add-pair-fault c = search needs
-
-shared-slice-read-pair-fault : tie.Need-shared-slice-read-pair-fault Inv-loop μ-loop
-shared-slice-read-pair-fault c = search needs
-
-add-pair-fault-2 : tie.Need-add-pair-fault-2 Inv-loop μ-loop
-add-pair-fault-2 c = search needs
-
-shared-slice-read-pair-fault-2 : tie.Need-shared-slice-read-pair-fault-2 Inv-loop μ-loop
-shared-slice-read-pair-fault-2 c = search needs
-
-pair-fault-requires : tie.Need-pair-fault-requires Inv-loop μ-loop
-pair-fault-requires c κs = search needs
-
-add-i : tie.Need-add-i Inv-loop μ-loop
-add-i c = search needs
-
-loop-less : tie.Need-loop-less Inv-loop μ-loop
-loop-less c = search needs
-
 loop-again : tie.Need-loop-again Inv-loop μ-loop
 loop-again c =
-    let loop = c .before .before .before .before .before .loop in (
+    let loop = the (tie.At-loop Inv-loop μ-loop) (search) .loop in (
       omega arith,
       pairs-more (loop .most) (c .before .pair-fault .result) (c .if1 .most) (⊎-elim (λ w. inl (omega arith, omega arith)) (λ w. inr (omega arith, omega arith)) (c .if1 .came))
-          (c .before .before .before .before .before .before .before .args .part .now) (loop .i)
+          (the (tie.Start Inv-loop μ-loop) (search) .args .part .now) (loop .i)
           (loop .inv .1)
           (c .before .pair-fault .ensures),
     )
@@ -59,16 +39,5 @@ returns c =
 pub pair-faults-spec : {M : Type 1} → statement M
 pair-faults-spec =
     tie.close
-    (tie.spec
-    Inv-loop
-    μ-loop
-    loop-holds
-    add-pair-fault
-    shared-slice-read-pair-fault
-    add-pair-fault-2
-    shared-slice-read-pair-fault-2
-    pair-fault-requires
-    add-i
-    loop-less
-    loop-again
-    returns)
+    (tie.spec Inv-loop μ-loop loop-holds (λ c. search needs) (λ c. search needs) (λ c. search needs) (λ c. search needs) (λ c κs. search needs)
+    (λ c. search needs) (λ c. search needs) loop-again returns)

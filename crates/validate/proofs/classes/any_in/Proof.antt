@@ -6,6 +6,7 @@ use native.Mathlib.Omega.{arith}
 use lib.ListN.{length, drop}
 use borrow.Author.Needs.{needs}
 use Rattle.format.specs.Bytes.{any}
+use Rattle.format.proofs.Typed.{the}
 use Rattle.validate.specs.Classes.{inClass}
 use Rattle.validate.proofs.Searching.{any-step, any-end}
 use Rattle.validate.proofs.classes.any_in.Statement.{statement}
@@ -17,31 +18,16 @@ Inv-loop class s found₀ i₀ found i = (i ≤ length s) × (any (inClass class
 abbrev μ-loop : tie.MeasureT-loop
 μ-loop class s found₀ i₀ found i = length s - i
 
-any-short-requires : tie.Need-any-short-requires Inv-loop μ-loop
-any-short-requires c κs = search needs
-
 returns : tie.Need-returns Inv-loop μ-loop
 returns c = search needs
 
 loop-holds : tie.Need-loop-holds Inv-loop μ-loop
 loop-holds c = (omega arith, refl)
 
-shared-slice-read-in-class : tie.Need-shared-slice-read-in-class Inv-loop μ-loop
-shared-slice-read-in-class c = search needs
-
-in-class-requires : tie.Need-in-class-requires Inv-loop μ-loop
-in-class-requires c κs = search needs
-
-add-i : tie.Need-add-i Inv-loop μ-loop
-add-i c = search needs
-
-loop-less : tie.Need-loop-less Inv-loop μ-loop
-loop-less c = search needs
-
 loop-again : tie.Need-loop-again Inv-loop μ-loop
 loop-again c =
-    let at-loop = c .before .before .before in
-    let args = at-loop .before .before .before .args in
+    let at-loop : tie.At-loop Inv-loop μ-loop = search in
+    let args = the (tie.Start Inv-loop μ-loop) (search) .args in
     let i = at-loop .loop .i in
     let found = at-loop .loop .found in (
       omega arith,
@@ -52,22 +38,12 @@ loop-again c =
 
 returns-2 : tie.Need-returns-2 Inv-loop μ-loop
 returns-2 c =
-    let at-loop = c .before in
-    let args = at-loop .before .before .before .args in
+    let at-loop : tie.At-loop Inv-loop μ-loop = search in
+    let args = the (tie.Start Inv-loop μ-loop) (search) .args in
     sym (at-loop .loop .inv .1 ∙ any-end (inClass (args .class)) (args .s .now) (at-loop .loop .i) (at-loop .loop .found) (omega arith))
 
 pub any-in-spec : {M : Type 1} → statement M
 any-in-spec =
     tie.close
-    (tie.spec
-    Inv-loop
-    μ-loop
-    any-short-requires
-    returns
-    loop-holds
-    shared-slice-read-in-class
-    in-class-requires
-    add-i
-    loop-less
-    loop-again
-    returns-2)
+    (tie.spec Inv-loop μ-loop (λ c κs. search needs) returns loop-holds (λ c. search needs) (λ c κs. search needs) (λ c. search needs)
+    (λ c. search needs) loop-again returns-2)

@@ -6,6 +6,7 @@ use native.Mathlib.Omega.{arith}
 use lib.ListN.{length, drop}
 use borrow.Author.Needs.{needs}
 use Rattle.format.specs.Bytes.{any}
+use Rattle.format.proofs.Typed.{the}
 use Rattle.validate.specs.Classes.{inClass}
 use Rattle.validate.proofs.Searching.{any-step, any-end}
 use Rattle.validate.proofs.classes.any_short.Statement.{statement}
@@ -20,32 +21,20 @@ abbrev μ-loop : tie.MeasureT-loop
 loop-holds : tie.Need-loop-holds Inv-loop μ-loop
 loop-holds c = (omega arith, refl)
 
-shared-slice-read-in-class : tie.Need-shared-slice-read-in-class Inv-loop μ-loop
-shared-slice-read-in-class c = search needs
-
-in-class-requires : tie.Need-in-class-requires Inv-loop μ-loop
-in-class-requires c κs = search needs
-
 returns : tie.Need-returns Inv-loop μ-loop
 returns c =
-    let at-loop = c .before .before .before .before in
-    let args = at-loop .before .before .args in
+    let at-loop : tie.At-loop Inv-loop μ-loop = search in
+    let args = the (tie.Start Inv-loop μ-loop) (search) .args in
     let rest = any (inClass (args .class)) (drop (at-loop .loop .at + 1) (args .s .now)) in
     sym
     (at-loop .loop .inv .1
     ∙ any-step (inClass (args .class)) (args .s .now) (at-loop .loop .at) false (omega arith)
     ∙ ap (λ (b : Bool). b || rest) (sym (c .before .in-class .ensures) ∙ c .if1 .taken))
 
-add-at : tie.Need-add-at Inv-loop μ-loop
-add-at c = search needs
-
-loop-less : tie.Need-loop-less Inv-loop μ-loop
-loop-less c = search needs
-
 loop-again : tie.Need-loop-again Inv-loop μ-loop
 loop-again c =
-    let at-loop = c .before .before .before .before in
-    let args = at-loop .before .before .args in
+    let at-loop : tie.At-loop Inv-loop μ-loop = search in
+    let args = the (tie.Start Inv-loop μ-loop) (search) .args in
     let rest = any (inClass (args .class)) (drop (at-loop .loop .at + 1) (args .s .now)) in (
       omega arith,
       at-loop .loop .inv .1
@@ -55,21 +44,12 @@ loop-again c =
 
 returns-2 : tie.Need-returns-2 Inv-loop μ-loop
 returns-2 c =
-    let at-loop = c .before in
-    let args = at-loop .before .before .args in
+    let at-loop : tie.At-loop Inv-loop μ-loop = search in
+    let args = the (tie.Start Inv-loop μ-loop) (search) .args in
     sym (at-loop .loop .inv .1 ∙ any-end (inClass (args .class)) (args .s .now) (at-loop .loop .at) false (omega arith))
 
 pub any-short-spec : {M : Type 1} → statement M
 any-short-spec =
     tie.close
-    (tie.spec
-    Inv-loop
-    μ-loop
-    loop-holds
-    shared-slice-read-in-class
-    in-class-requires
-    returns
-    add-at
-    loop-less
-    loop-again
+    (tie.spec Inv-loop μ-loop loop-holds (λ c. search needs) (λ c κs. search needs) returns (λ c. search needs) (λ c. search needs) loop-again
     returns-2)

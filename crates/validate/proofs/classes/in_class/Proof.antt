@@ -6,27 +6,6 @@ use Rattle.validate.proofs.classes.in_class.Tie as tie
 enum-told : tie.Need-enum-told
 enum-told c = search needs
 
-is-ascii-control-requires : tie.Need-is-ascii-control-requires
-is-ascii-control-requires c κs = search needs
-
-enum-told-2 : tie.Need-enum-told-2
-enum-told-2 c = search needs
-
-reserved-in-name-requires : tie.Need-reserved-in-name-requires
-reserved-in-name-requires c κs = search needs
-
-enum-told-3 : tie.Need-enum-told-3
-enum-told-3 c = search needs
-
-reserved-in-param-name-requires : tie.Need-reserved-in-param-name-requires
-reserved-in-param-name-requires c κs = search needs
-
-enum-told-4 : tie.Need-enum-told-4
-enum-told-4 c = search needs
-
-reserved-in-param-value-requires : tie.Need-reserved-in-param-value-requires
-reserved-in-param-value-requires c κs = search needs
-
 returns : tie.Need-returns
 returns c = rw (c .before .enum-told .given .1) (c .is-ascii-control .ensures)
 
@@ -42,16 +21,5 @@ returns-4 c = rw (c .before .enum-told4 .given .1) (c .reserved-in-param-value .
 pub in-class-spec : {M : Type 1} → statement M
 in-class-spec =
     tie.close
-    (tie.spec
-    enum-told
-    is-ascii-control-requires
-    enum-told-2
-    reserved-in-name-requires
-    enum-told-3
-    reserved-in-param-name-requires
-    enum-told-4
-    reserved-in-param-value-requires
-    returns
-    returns-2
-    returns-3
-    returns-4)
+    (tie.spec enum-told (λ c κs. search needs) (λ c. search needs) (λ c κs. search needs) (λ c. search needs) (λ c κs. search needs)
+    (λ c. search needs) (λ c κs. search needs) returns returns-2 returns-3 returns-4)

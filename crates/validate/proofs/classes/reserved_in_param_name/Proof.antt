@@ -7,12 +7,9 @@ use Rattle.format.specs.Validators.{reservedInParamName}
 use Rattle.validate.proofs.classes.reserved_in_param_name.Statement.{statement}
 use Rattle.validate.proofs.classes.reserved_in_param_name.Tie as tie
 
-is-ascii-control-requires : tie.Need-is-ascii-control-requires
-is-ascii-control-requires c κs = search needs
-
 returns : tie.Need-returns
 unfolding reservedInParamName any
 returns c = rw (or-false, c .is-ascii-control .ensures) refl
 
 pub reserved-in-param-name-spec : {M : Type 1} → statement M
-reserved-in-param-name-spec = tie.close (tie.spec is-ascii-control-requires returns)
+reserved-in-param-name-spec = tie.close (tie.spec (λ c κs. search needs) returns)

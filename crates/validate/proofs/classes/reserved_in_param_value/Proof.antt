@@ -7,12 +7,9 @@ use Rattle.format.specs.Validators.{reservedInParamValue}
 use Rattle.validate.proofs.classes.reserved_in_param_value.Statement.{statement}
 use Rattle.validate.proofs.classes.reserved_in_param_value.Tie as tie
 
-is-ascii-control-requires : tie.Need-is-ascii-control-requires
-is-ascii-control-requires c κs = search needs
-
 returns : tie.Need-returns
 unfolding reservedInParamValue any
 returns c = rw (or-false, c .is-ascii-control .ensures) refl
 
 pub reserved-in-param-value-spec : {M : Type 1} → statement M
-reserved-in-param-value-spec = tie.close (tie.spec is-ascii-control-requires returns)
+reserved-in-param-value-spec = tie.close (tie.spec (λ c κs. search needs) returns)

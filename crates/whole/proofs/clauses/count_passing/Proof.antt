@@ -3,6 +3,7 @@ use Prim.Native.Nat.{_-_}
 use mathlib.Core.Path.{sym, _∙_}
 use native.Mathlib.Omega.{arith}
 use borrow.Author.Tests.{not-true, not-false}
+use Rattle.format.proofs.Typed.{the}
 use Rattle.whole.specs.Clauses.{meets}
 use Rattle.whole.proofs.Walking.{Walked, walked-start, walked-end, walked-shaped, walked-numbers, walked-size, walked-stop, walked-on}
 use Rattle.whole.proofs.clauses.count_passing.Statement.{statement}
@@ -16,31 +17,31 @@ abbrev μ-loop : tie.MeasureT-loop
 
 loop-holds : tie.Need-loop-holds Inv-loop μ-loop
 loop-holds c =
-    let start = c .before in
+    let start : tie.Start Inv-loop μ-loop = search in
     walked-start (meets (start .args .clause)) (start .args .s .now) (start .args .count) (start .pre)
 
 meets-requires : tie.Need-meets-requires Inv-loop μ-loop
 meets-requires c κs =
-    let args = c .before .before .before .args in
+    let args = the (tie.Start Inv-loop μ-loop) (search) .args in
     let l = c .before .loop in
     walked-shaped (meets (args .clause)) (args .s .now) (args .count) (l .at) (l .i) (l .inv) (omega arith)
 
 returns : tie.Need-returns Inv-loop μ-loop
 returns c =
-    let args = c .before .before .before .before .before .args in
-    let l = c .before .before .before .loop in
+    let args = the (tie.Start Inv-loop μ-loop) (search) .args in
+    let l = the (tie.At-loop Inv-loop μ-loop) (search) .loop in
     walked-stop (meets (args .clause)) (args .s .now) (args .count) (l .at) (l .i) (l .inv) (omega arith) (sym (c .before .meets .ensures) ∙ not-true _ (c .if1 .taken))
 
 entry-len-requires : tie.Need-entry-len-requires Inv-loop μ-loop
 entry-len-requires c κs =
-    let args = c .before .before .before .before .before .args in
-    let l = c .before .before .before .loop in
+    let args = the (tie.Start Inv-loop μ-loop) (search) .args in
+    let l = the (tie.At-loop Inv-loop μ-loop) (search) .loop in
     walked-numbers (meets (args .clause)) (args .s .now) (args .count) (l .at) (l .i) (l .inv) (omega arith)
 
 add-at : tie.Need-add-at Inv-loop μ-loop
 add-at c =
-    let args = c .before .before .before .before .before .before .args in
-    let l = c .before .before .before .before .loop in
+    let args = the (tie.Start Inv-loop μ-loop) (search) .args in
+    let l = the (tie.At-loop Inv-loop μ-loop) (search) .loop in
     omega (arith, walked-size (meets (args .clause)) (args .s .now) (args .count) (l .at) (l .i) (l .inv) (omega arith), c .entry-len .ensures .0)
 
 add-i : tie.Need-add-i Inv-loop μ-loop
@@ -51,28 +52,17 @@ loop-less c = omega arith
 
 loop-again : tie.Need-loop-again Inv-loop μ-loop
 loop-again c =
-    let args = c .before .before .before .before .before .before .args in
-    let l = c .before .before .before .before .loop in
-    rw (c .entry-len .ensures .0) (walked-on (meets (args .clause)) (args .s .now) (args .count) (l .at) (l .i) (l .inv) (omega arith) (sym (c .before .before .meets .ensures) ∙ not-false _ (c .before .if1 .left)))
+    let args = the (tie.Start Inv-loop μ-loop) (search) .args in
+    let l = the (tie.At-loop Inv-loop μ-loop) (search) .loop in
+    rw (c .entry-len .ensures .0) (walked-on (meets (args .clause)) (args .s .now) (args .count) (l .at) (l .i) (l .inv) (omega arith) (sym (the (tie.After-meets Inv-loop μ-loop) (search) .meets .ensures) ∙ not-false _ (c .before .if1 .left)))
 
 returns-2 : tie.Need-returns-2 Inv-loop μ-loop
 returns-2 c =
-    let args = c .before .before .before .args in
+    let args = the (tie.Start Inv-loop μ-loop) (search) .args in
     let l = c .before .loop in
     walked-end (meets (args .clause)) (args .s .now) (args .count) (l .at) (l .i) (l .inv) (omega arith)
 
 pub count-passing-spec : {M : Type 1} → statement M
 count-passing-spec =
     tie.close
-    (tie.spec
-    Inv-loop
-    μ-loop
-    loop-holds
-    meets-requires
-    returns
-    entry-len-requires
-    add-at
-    add-i
-    loop-less
-    loop-again
-    returns-2)
+    (tie.spec Inv-loop μ-loop loop-holds meets-requires returns entry-len-requires add-at add-i loop-less loop-again returns-2)
