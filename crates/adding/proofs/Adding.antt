@@ -14,7 +14,8 @@ use Rattle.format.specs.Lending.{LentHeader, headLent, lengths, leaves, Changed
 use Rattle.format.specs.declared.Numbers.{Numbers}
 use Rattle.format.specs.declared.CpimMessage.{CpimMessage}
 use Rattle.format.specs.declared.CpimHeader.{CpimHeader}
-use Rattle.format.proofs.Lists.{clash, and-left, and-right}
+use Rattle.format.proofs.Lists.{clash}
+use Rattle.format.proofs.Rulesets.{tests}
 use Rattle.held.specs.Holding.{messageHolds, headerHolds}
 use Rattle.held.proofs.Alone.{holds-alone-held}
 use Rattle.held.proofs.Cases.{alone-held}
@@ -77,13 +78,13 @@ module _ (name : Bytes) (h : CpimHeader) (store : Bytes) (m : CpimMessage) (head
   module _ (held : (messageHolds m head && headerHolds h store) ≡ true) where
     with-both : ((x : LoneHeader) → HoldsAlone h store x → Changed (add-header-obj name (some x)) l k n) → HeaderAdded name lone l k n
     with-both does =
-        record { added = alone-held (λ o. Changed (add-header-obj name o) l k n) h store (and-right (messageHolds m head) (headerHolds h store) held) does }
+        record { added = alone-held (λ o. Changed (add-header-obj name o) l k n) h store ((simp tests at held) .1) does }
 
     pub no-text : isUtf8 name ≡ false → n ≡ record { number = 24; carried = 0 } → k ≡ l → HeaderAdded name lone l k n
     no-text f e s =
         with-both
         (λ x a. refused-early (add-header-obj name (some x)) l k n (messageHolds m head) (isUtf8 name) (judged-head m head) (texts-are name x) (header-in name x)
-        (e ∙ not-text (messageHolds m head) (isUtf8 name) (and-left (messageHolds m head) (headerHolds h store) held) f)
+        (e ∙ not-text (messageHolds m head) (isUtf8 name) ((simp tests at held) .0) f)
         (λ z. omega (arith, ap (λ (q : Numbers). q .number) (sym e) ∙ z)) s)
 
     pub done : isUtf8 name ≡ true
@@ -93,4 +94,4 @@ module _ (name : Bytes) (h : CpimHeader) (store : Bytes) (m : CpimMessage) (head
     done u does =
         with-both
         (λ x a. done-held (add-header-obj name (some x)) l k n (messageHolds m head) (isUtf8 name) (judged-head m head) (texts-are name x) (header-in name x)
-        (and-left (messageHolds m head) (headerHolds h store) held) u (λ q w. does x q a w))
+        ((simp tests at held) .0) u (λ q w. does x q a w))

@@ -8,14 +8,14 @@ use native.Mathlib.Omega.{arith}
 use lib.ListN.{length}
 use Rattle.format.specs.Bytes.{Bytes}
 use Rattle.format.specs.Limits.{maxHeaders, maxContents}
-use Rattle.format.specs.Refusals.{Refusal, tooManyHeaders, table, _carrying_, Out, atMost, _>>_}
+use Rattle.format.specs.Refusals.{Refusal, table, _carrying_, Out, atMost, _>>_}
 use Rattle.format.specs.Message.{Entry, Header, Message, nameOf, entryName, entry, insert, without, put, ascending, needHeader, needEntry}
 use Rattle.format.specs.Calls.{headerCount, contentCount, ifRoom, withHeaders, withContents, append}
 use Rattle.format.specs.Layout.{Lent, Holds}
 use Rattle.format.specs.Lending.{headLent, lengths}
 use Rattle.format.specs.declared.Numbers.{Numbers}
 use Rattle.format.specs.declared.CpimMessage.{CpimMessage}
-use Rattle.format.proofs.Steps.{atMost-passed}
+use Rattle.format.proofs.Rulesets.{checks}
 use Rattle.format.proofs.Answers.{carried}
 use Rattle.format.proofs.Messages.Parts.{message-parts}
 use Rattle.entries.specs.Groups.{low, own, high, Grouped}
@@ -54,7 +54,7 @@ module _ (m r : CpimMessage) (head after : Bytes) (n : Numbers) (k : Message) (h
         let e : (l ++ o) ++ (x ∷ h) ≡ insert nameOf x (k .headers) =
         append-assoc l o (x ∷ h) ∙ sym (insert-parts nameOf name (k .headers) ordered x named) in
         does-passed (headLent m head) (headLent r after) n (headerCount (length (k .headers))) (ifRoom (length head) (withHeaders k (insert nameOf x (k .headers))))
-        (atMost-passed maxHeaders tooManyHeaders (length (k .headers) + 1) (omega (arith, few, count)))
+        (simp checks (omega (arith, few, count)))
         (subst (λ (hs : List Header). Does (headLent m head) (headLent r after) n (ifRoom (length head) (withHeaders k hs))) e
         (does (l ++ o) [] h (behind nameOf needHeader name (k .headers) at size many g)))
 

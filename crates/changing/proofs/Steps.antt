@@ -6,7 +6,7 @@ use mathlib.Core.Bool.{true}
 use lib.ListN.{length}
 use Rattle.format.specs.Bytes.{Bytes}
 use Rattle.format.specs.Limits.{maxName, maxValue}
-use Rattle.format.specs.Refusals.{Refusal, nameTooLong, valueTooLong, table, Out, accepted, numbers, Check, atMost, passes, _>>_}
+use Rattle.format.specs.Refusals.{Refusal, table, Out, accepted, numbers, Check, atMost, passes, _>>_}
 use Rattle.format.specs.Validators.{headerName, headerValue, contentValue}
 use Rattle.format.specs.Message.{Message}
 use Rattle.format.specs.Layout.{Lent}
@@ -14,7 +14,8 @@ use Rattle.format.specs.Lending.{headLent, numbersOf, laidIn, leaves}
 use Rattle.format.specs.declared.Numbers.{Numbers}
 use Rattle.format.specs.declared.CpimMessage.{CpimMessage}
 use Rattle.format.specs.declared.Answer.{Answer}
-use Rattle.format.proofs.Steps.{then-passes, then-passed, atMost-passes}
+use Rattle.format.proofs.Steps.{then-passed}
+use Rattle.format.proofs.Rulesets.{checks}
 use Rattle.format.proofs.Answers.{other-fails, then-refused, over-limit}
 use Rattle.placing.specs.Placing.{Does}
 
@@ -54,15 +55,15 @@ does-over l k n limit r i o h e s =
 -- The lengths that a validator lets pass.
 pub name-short : (n : Bytes) → passes (headerName n) ≡ true → length n ≤ maxName
 unfolding headerName
-name-short n h = atMost-passes maxName nameTooLong (length n) (then-passes _ _ (then-passes _ _ h .1) .0)
+name-short n h = (simp checks at h) .1 .0
 
 pub value-short : (v : Bytes) → passes (headerValue v) ≡ true → length v ≤ maxValue
 unfolding headerValue
-value-short v h = atMost-passes maxValue valueTooLong (length v) h
+value-short v h = simp checks at h
 
 pub content-short : (v : Bytes) → passes (contentValue v) ≡ true → length v ≤ maxValue
 unfolding contentValue
-content-short v h = atMost-passes maxValue valueTooLong (length v) (then-passes _ _ h .0)
+content-short v h = (simp checks at h) .0
 
 -- An answer that hands a refusal on, with the record as it was.
 pub handed-on : (m : CpimMessage) (head : Bytes) (r : Answer) (n : Numbers) (x : Check) (o : Out Message)

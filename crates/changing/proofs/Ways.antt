@@ -16,7 +16,7 @@ use Rattle.format.specs.declared.Numbers.{Numbers}
 use Rattle.format.specs.declared.CpimMessage.{CpimMessage}
 use Rattle.format.specs.declared.Answer.{Answer}
 use Rattle.format.proofs.Lists.{bcase, clash}
-use Rattle.format.proofs.Steps.{refuseUnless-passed}
+use Rattle.format.proofs.Rulesets.{checks}
 use Rattle.format.proofs.Answers.{zero-passes}
 use Rattle.held.specs.Holding.{messageHolds}
 use Rattle.held.proofs.Messages.{holds-held}
@@ -47,10 +47,8 @@ module _ (held utf8 : Bool) where
   all-ready h u = rw (h, u) refl
 
 pub ready-parts : (held utf8 : Bool) → passes (readiness held utf8) ≡ true → (held ≡ true) × (utf8 ≡ true)
-unfolding readiness refuseIf passes _>>_
-ready-parts true true h = (refl, refl)
-ready-parts true false h = clash h refl
-ready-parts false utf8 h = clash h refl
+unfolding readiness
+ready-parts held utf8 h = simp checks at h
 
 -- the checks, by whether something is held
 ready-none : (utf8 : Bool) → readiness false utf8 ≡ refused nothingHeld
@@ -108,7 +106,7 @@ module _ (c : Call) (l k : Lent) (n : Numbers) (held utf8 : Bool) (judged : Judg
       ends none (nothing f) = clash t (none-false f)
       ends (some m) (message h) =
           subst (Does l k n) (sym (answer-held m))
-          (does-passed l k n (refuseIf (not utf8) notUtf8) (change c (lengths l) m) (refuseUnless-passed utf8 notUtf8 u) (does m h))
+          (does-passed l k n (refuseIf (not utf8) notUtf8) (change c (lengths l) m) (simp checks u) (does m h))
 
 -- The same for the calls that take the head store and two texts.
 pub two-texts : (a b : Bool) → (a && b) ≡ (a && (b && true))

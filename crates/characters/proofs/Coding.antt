@@ -15,7 +15,8 @@ use lib.Seq.{drop-cons}
 use borrow.Author.Tests.{leb-true, leb-false, ltb-true, eq-eqb, ne-eqb}
 use Rattle.format.specs.Bytes.{Bytes, if_then_else_, all}
 use Rattle.format.specs.Characters.{Range, _to_, within, Row, table-3-7, trailIn, trailOf, fits, matched, wellFormed}
-use Rattle.format.proofs.Lists.{bcase, and-left, and-right, all-head, all-tail, all-getD}
+use Rattle.format.proofs.Lists.{bcase, all-head, all-tail, all-getD}
+use Rattle.format.proofs.Rulesets.{tests}
 use Rattle.format.proofs.Characters.Table.{trail-ascii, noRow, rowOf, within-below, within-above, within-intro}
 use Rattle.characters.specs.Coded.{padded, coded, codedAll, codedRows, matchedEnds, firstTrail, trailAt, rowIn, leadRow}
 use Rattle.characters.specs.Lengths.{subpartLen, charLen}
@@ -166,8 +167,7 @@ row-sized i h = all-getD sized table-3-7 noRow i table-sized h
 
 pub row-short : (i : ℕ) → i < 9 → length (rowOf i .trail) ≤ 3
 unfolding sized
-row-short i h =
-    leb-true (length (rowOf i .trail)) 3 (and-left (leb (length (rowOf i .trail)) 3) (all (λ q. ltb (q .first) 255) (rowOf i .trail)) (row-sized i h))
+row-short i h = (simp tests at (row-sized i h)) .0
 
 -- what stands where a row is filled up
 padding : (k n : ℕ) (rs : List Range) → length rs ≤ n → n < k → getD (padded k rs) (n * 2) 0 ≡ 255
@@ -192,7 +192,7 @@ unfolding sized
 row-filled rows i n q h j f =
     let e : getD (coded (rowOf i)) (n * 2 + 2) 0 ≡ 255 = rw (coded-row rows i q h) at f in
     let rs = rowOf i .trail in
-    let firsts = and-right (leb (length rs) 3) (all (λ q. ltb (q .first) 255) rs) (row-sized i h) in
+    let firsts = (simp tests at (row-sized i h)) .1 in
     let two : n * 2 + 2 ≡ suc (suc (n * 2)) = omega arith in
     let at : getD (padded 3 rs) (n * 2) 0 ≡ 255 = rw two at e in
     ⊎-elim (λ t. leb-true (length rs) n t) (λ f. absurd (omega (arith, used 3 n rs firsts (row-short i h) (leb-false (length rs) n f)))) (bcase (leb (length rs) n))

@@ -6,7 +6,7 @@ use mathlib.Core.List.{List, [], _∷_, _++_}
 use native.Mathlib.Omega.{arith}
 use lib.ListN.{length, drop}
 use Rattle.format.specs.Bytes.{Bytes, isEmpty, texts}
-use Rattle.format.proofs.Lists.{and-left, and-right, and-intro}
+use Rattle.format.proofs.Rulesets.{tests}
 use Rattle.entries.specs.Stored.{Stored, storedBytes, sizeIn, storedIn, shaped, shapedAll, entriesIn}
 use Rattle.entries.proofs.Shapes.{shape, shape-shaped}
 use Rattle.entries.proofs.Reading.{shape-bytes, read-rest, read-stored, read-shape}
@@ -16,8 +16,8 @@ unfolding shapedAll entriesIn texts isEmpty
 entries-bytes zero [] h = refl
 entries-bytes zero (b ∷ s) h = absurd (false≢true h)
 entries-bytes (suc n) s h =
-    let a = shape s (and-left (shaped s) (shapedAll n (drop (sizeIn s) s)) h) in
-    shape-bytes s a ∙ ap (λ (x : Bytes). storedBytes (storedIn s) ++ x) (entries-bytes n (drop (sizeIn s) s) (and-right (shaped s) (shapedAll n (drop (sizeIn s) s)) h))
+    let p = simp tests at h in
+    shape-bytes s (shape s (p .0)) ∙ ap (λ (x : Bytes). storedBytes (storedIn s) ++ x) (entries-bytes n (drop (sizeIn s) s) (p .1))
 
 pub entries-length : (n : ℕ) (s : Bytes) → length (entriesIn n s) ≡ n
 unfolding entriesIn
@@ -36,8 +36,7 @@ unfolding shapedAll texts isEmpty
 entries-shaped [] = refl
 entries-shaped (e ∷ es) =
     let rest = texts storedBytes es in
-    and-intro (shaped (storedBytes e ++ rest)) (shapedAll (length es) (drop (sizeIn (storedBytes e ++ rest)) (storedBytes e ++ rest)))
-    (shape-shaped (storedBytes e ++ rest) (read-shape e rest)) (ap (shapedAll (length es)) (read-rest e rest) ∙ entries-shaped es)
+    simp tests (shape-shaped (storedBytes e ++ rest) (read-shape e rest), ap (shapedAll (length es)) (read-rest e rest) ∙ entries-shaped es)
 
 pub suc-less : (n : ℕ) → suc n - 1 ≡ n
 suc-less n = omega arith
@@ -46,8 +45,7 @@ suc-less n = omega arith
 pub next-shaped : (n : ℕ) (s : Bytes) → 0 < n → shapedAll n s ≡ true → (shaped s ≡ true) × (shapedAll (n - 1) (drop (sizeIn s) s) ≡ true)
 unfolding shapedAll
 next-shaped zero s h a = absurd (omega arith)
-next-shaped (suc n) s h a =
-    rw (suc-less n) (and-left (shaped s) (shapedAll n (drop (sizeIn s) s)) a, and-right (shaped s) (shapedAll n (drop (sizeIn s) s)) a)
+next-shaped (suc n) s h a = rw (suc-less n) (simp tests at a)
 
 pub next-entry : (n : ℕ) (s : Bytes) → 0 < n → entriesIn n s ≡ storedIn s ∷ entriesIn (n - 1) (drop (sizeIn s) s)
 unfolding entriesIn

@@ -4,12 +4,12 @@ use mathlib.Core.Path.{_≡_, refl, sym, ap, _∙_}
 use mathlib.Core.Bool.{Bool, true, false, _&&_}
 use native.Mathlib.Nat.{add-zero}
 use native.Mathlib.Omega.{arith}
-use lib.Dec.{eqb, leb, ltb}
+use lib.Dec.{eqb, leb}
 use lib.ListN.{length, take, drop, getD, length-drop}
 use lib.Seq.{getD-drop, drop-drop}
-use borrow.Author.Tests.{leb-true, ltb-true, le-leb, lt-leb, lt-ltb}
+use borrow.Author.Tests.{le-leb, lt-leb, lt-ltb}
 use Rattle.format.specs.Bytes.{Bytes, all}
-use Rattle.format.proofs.Lists.{and-left, and-right, and-intro}
+use Rattle.format.proofs.Rulesets.{tests}
 use Rattle.entries.specs.Stored.{nameLength, valueLength, paramCount, tailLength, sizeIn, nameIn, valueIn, tailIn, shaped}
 
 -- What the shape says.
@@ -22,27 +22,11 @@ pub record Shape (s : Bytes) : Type 0 where
 
 pub shape : (s : Bytes) → shaped s ≡ true → Shape s
 unfolding shaped
-shape s h =
-    let lows = ltb (getD s 1 0) 256 && ltb (getD s 4 0) 256 in
-    let whole = leb (sizeIn s) (length s) in
-    let zeros = all (eqb 0) (take 10 (drop 6 s)) in
-    let a = and-right (leb 16 (length s)) (zeros && (whole && lows)) h in
-    let b = and-right zeros (whole && lows) a in
-    let c = and-right whole lows b in
-    record {
-      numbers = leb-true 16 (length s) (and-left (leb 16 (length s)) (zeros && (whole && lows)) h);
-      zeros = and-left zeros (whole && lows) a;
-      whole = leb-true (sizeIn s) (length s) (and-left whole lows b);
-      value-low = ltb-true (getD s 1 0) 256 (and-left (ltb (getD s 1 0) 256) (ltb (getD s 4 0) 256) c);
-      tail-low = ltb-true (getD s 4 0) 256 (and-right (ltb (getD s 1 0) 256) (ltb (getD s 4 0) 256) c);
-    }
+shape s h = search (simp tests at h)
 
 pub shape-shaped : (s : Bytes) → Shape s → shaped s ≡ true
 unfolding shaped
-shape-shaped s h =
-    and-intro _ _ (le-leb _ _ (h .numbers))
-    (and-intro _ _ (h .zeros)
-    (and-intro _ _ (le-leb _ _ (h .whole)) (and-intro _ _ (lt-ltb _ _ (h .value-low)) (lt-ltb _ _ (h .tail-low)))))
+shape-shaped s h = simp tests (search)
 
 -- the numbers of the entry at a place
 module _ (s : Bytes) (at : ℕ) where

@@ -15,6 +15,7 @@ use Rattle.format.specs.Bytes.{Bytes, if_then_else_, all, texts}
 use Rattle.format.specs.Characters.{Range, _to_, within, Row, table-3-7, trailOf, matched, matchedSome, trailing, fits, wellFormed, codePoint, isControl, isControlCode, isAsciiControl}
 use Rattle.format.specs.Escaping.{shortForm, shortOr, unicodeEscape, escapeChar, escape}
 use Rattle.format.proofs.Lists.{bcase, clash, and-left, and-right, and-intro}
+use Rattle.format.proofs.Rulesets.{tests}
 use Rattle.format.proofs.Characters.Table.{within-low, within-high, within-intro, within-below, picks, whole-row}
 use Rattle.format.proofs.Characters.Chars.{chars-nil, chars-cons, chars-whole, chars-ascii, ascii-whole}
 use Rattle.format.proofs.Characters.Shapes.{Shape, one, two, three, four, shape, value-two}
@@ -40,16 +41,10 @@ matched-trails : (rs : List Range) (t : Bytes) → all inTrail rs ≡ true → a
 unfolding matched all
 matched-trails [] t h = refl
 matched-trails (r ∷ rs) [] h = refl
-matched-trails (r ∷ rs) (b ∷ t) h = go (within b r) refl (matched-trails rs t (and-right (inTrail r) (all inTrail rs) h))
+matched-trails (r ∷ rs) (b ∷ t) h = go (within b r) refl (matched-trails rs t ((simp tests at h) .1))
   where
-    i : inTrail r ≡ true
-    i = and-left (inTrail r) (all inTrail rs) h
-
     inside : within b r ≡ true → isTrail b ≡ true
-    inside w =
-        within-intro b (0x80 to 0xBF)
-        (omega (arith, within-low b r w, leb-true 0x80 (r .first) (and-left (leb 0x80 (r .first)) (leb (r .last) 0xBF) i)))
-        (omega (arith, within-high b r w, leb-true (r .last) 0xBF (and-right (leb 0x80 (r .first)) (leb (r .last) 0xBF) i)))
+    inside w = within-intro b (0x80 to 0xBF) (omega (arith, within-low b r w, simp tests at h)) (omega (arith, within-high b r w, simp tests at h))
 
     go : (w : Bool) → within b r ≡ w → all isTrail (take (matched rs t) t) ≡ true → all isTrail (take (if w then suc (matched rs t) else 0) (b ∷ t)) ≡ true
     go true w e = and-intro (isTrail b) (all isTrail (take (matched rs t) t)) (inside w) e
@@ -65,7 +60,7 @@ trailing-trails b t = go (trailOf b) refl
     go (some rs) e =
         let p = picks trailRow table-3-7 b rs table-trails e in
         let r = p .picked in
-        let q : all inTrail (r .trail) ≡ true = and-left (all inTrail (r .trail)) (leb (r .lead .last) 0x7F || leb 0xC0 (r .lead .first)) (p .passes) in
+        let q : all inTrail (r .trail) ≡ true = (simp tests at (p .passes)) .0 in
         matched-trails rs t (rw (p .trails) at q)
 
 -- a trailing byte leads no character
@@ -83,8 +78,7 @@ trail-none c h = go (trailOf c) refl
     go (some rs) e =
         let p = picks trailRow table-3-7 c rs table-trails e in
         let r = p .picked in
-        let q : (leb (r .lead .last) 0x7F || leb 0xC0 (r .lead .first)) ≡ true =
-        and-right (all inTrail (r .trail)) (leb (r .lead .last) 0x7F || leb 0xC0 (r .lead .first)) (p .passes) in
+        let q : (leb (r .lead .last) 0x7F || leb 0xC0 (r .lead .first)) ≡ true = (simp tests at (p .passes)) .1 in
         absurd
         (⊎-elim (λ t. omega (arith, low, within-high c (r .lead) (p .leads), leb-true (r .lead .last) 0x7F t))
         (λ f. omega (arith, high, within-low c (r .lead) (p .leads), leb-true 0xC0 (r .lead .first) (rw f at q)))
@@ -169,8 +163,8 @@ shape-control g (four a b c d h i j k v) l m = absurd (omega arith)
 control-high : (b : ℕ) (t : Bytes) → 128 ≤ b → isControl (b ∷ t) ≡ true → Control (b ∷ t)
 unfolding isControl
 control-high b t h c =
-    shape-control (b ∷ t) (shape (b ∷ t) (and-left (wellFormed (b ∷ t)) (isControlCode (codePoint (b ∷ t))) c)) h
-    (control-most (codePoint (b ∷ t)) (and-right (wellFormed (b ∷ t)) (isControlCode (codePoint (b ∷ t))) c))
+    let p = simp tests at c in
+    shape-control (b ∷ t) (shape (b ∷ t) (p .0)) h (control-most (codePoint (b ∷ t)) (p .1))
 
 -- the first of two bytes is one of the bytes that are taken
 take-head : (k c d : ℕ) (t : Bytes) → take k (c ∷ t) ≡ d ∷ [] → c ≡ d

@@ -2,6 +2,7 @@
 pub mod Typed
 pub mod Lists
 pub mod Steps
+pub mod Rulesets
 pub mod Answers
 pub mod Characters
 pub mod Escaping

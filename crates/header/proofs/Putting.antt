@@ -16,7 +16,7 @@ use Rattle.format.specs.Lending.{laidAlone, leavesHeader}
 use Rattle.format.specs.declared.Numbers.{Numbers}
 use Rattle.format.specs.declared.CpimHeader.{CpimHeader}
 use Rattle.format.proofs.Lists.{clash}
-use Rattle.format.proofs.Steps.{refuseIf-passes, refuseIf-passed}
+use Rattle.format.proofs.Rulesets.{checks}
 use Rattle.format.proofs.Answers.{zero-passes, passed-numbers}
 use Rattle.format.proofs.Messages.Layout.{entries-length}
 use Rattle.store.specs.Spliced.{entrySize, spliced, Parted}
@@ -43,8 +43,8 @@ module _ (m r : CpimHeader) (store after : Bytes) (n : Numbers) (k : LoneHeader)
       let check = room (length store) (needAlone k) in
       let short = ltb (length store) (needAlone k) in
       placed-by short a s
-      (λ t. kept (λ z. clash t (refuseIf-passes short (noRoom (needAlone k)) (zero-passes check n a z))))
-      (λ f. new (ap (λ (x : Numbers). x .number) (a ∙ sym (passed-numbers check (refuseIf-passed short (noRoom (needAlone k)) f)))))
+      (λ t. kept (λ z. clash t (simp checks at (zero-passes check n a z))))
+      (λ f. new (ap (λ (x : Numbers). x .number) (a ∙ sym (passed-numbers check (simp checks f)))))
 
 -- The store with a parameter spliced in is the layout of the header with that parameter.
 param-laid : (k : LoneHeader) (store : Bytes) → take (needAlone k) store ≡ layoutAlone k

@@ -8,7 +8,7 @@ use native.Mathlib.Omega.{arith}
 use lib.ListN.{length}
 use Rattle.format.specs.Bytes.{Bytes}
 use Rattle.format.specs.Limits.{maxParams, maxParamName, maxParamValue}
-use Rattle.format.specs.Refusals.{paramNameTooLong, paramValueTooLong, tooManyParams, table, Out, accepted, refused, numbers, Check, passes, _>>_, _>>=_}
+use Rattle.format.specs.Refusals.{tooManyParams, table, Out, accepted, refused, numbers, Check, passes, _>>_, _>>=_}
 use Rattle.format.specs.Validators.{paramName, paramValue}
 use Rattle.format.specs.Message.{Entry, LoneHeader, entry, entryName, needEntry, put}
 use Rattle.format.specs.Calls.{paramCount, setParam, addParam, ifRoomAlone}
@@ -17,7 +17,8 @@ use Rattle.format.specs.Lending.{LentHeader, headerNumbers, leavesHeader}
 use Rattle.format.specs.declared.Numbers.{Numbers}
 use Rattle.format.specs.declared.CpimHeader.{CpimHeader}
 use Rattle.format.specs.declared.HeaderAnswer.{HeaderAnswer}
-use Rattle.format.proofs.Steps.{then-passes, then-passed, atMost-passes, atMost-passed}
+use Rattle.format.proofs.Steps.{then-passed}
+use Rattle.format.proofs.Rulesets.{checks}
 use Rattle.format.proofs.Answers.{carried, other-fails, then-refused, over-limit}
 use Rattle.format.proofs.Messages.Parts as valid
 use Rattle.entries.specs.Groups.{low, own, high, Grouped}
@@ -47,11 +48,11 @@ module _ (l k : LentHeader) (n : Numbers) (x : Check) (o : Out LoneHeader) where
 -- the lengths that a validator lets pass
 pub name-short : (n : Bytes) → passes (paramName n) ≡ true → length n ≤ maxParamName
 unfolding paramName
-name-short n h = atMost-passes maxParamName paramNameTooLong (length n) (then-passes _ _ (then-passes _ _ h .1) .0)
+name-short n h = (simp checks at h) .1 .0
 
 pub value-short : (v : Bytes) → passes (paramValue v) ≡ true → length v ≤ maxParamValue
 unfolding paramValue
-value-short v h = atMost-passes maxParamValue paramValueTooLong (length v) (then-passes _ _ h .0)
+value-short v h = (simp checks at h) .0
 
 -- An answer that hands numbers on, with the record as it was.
 pub handed-back : (h : CpimHeader) (store after : Bytes) (r : HeaderAnswer) (n : Numbers) (o : Out LoneHeader)
@@ -109,7 +110,7 @@ module _ (name value : Bytes) (k : LoneHeader) where
         let ps = k .params in
         let ordered = increasing-ascending entryName ps (valid.alone-parts k (held .within) .params .ordered) in
         does-passed (aloneIn h s) (aloneIn r after) n (paramCount (length ps)) _
-        (atMost-passed maxParams tooManyParams (length ps + 1) (omega (arith, few, alone-parts h s k held .params)))
+        (simp checks (omega (arith, few, alone-parts h s k held .params)))
         (subst (λ (es : List Entry). DoesAlone (aloneIn h s) (aloneIn r after) n (ifRoomAlone (length s) (withParams k es)))
         (sym (put-parts entryName name ps ordered (entry name value) refl))
         (does (low entryName name ps) (own entryName name ps) (high entryName name ps) (in-place entryName needEntry name ps at size many g)))

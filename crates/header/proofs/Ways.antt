@@ -8,7 +8,7 @@ use mathlib.Core.Option.{Option}
 use native.Mathlib.Omega.{arith}
 use lib.ListN.{length, replicate}
 use Rattle.format.specs.Bytes.{Bytes, pasted, texts, total, over}
-use Rattle.format.specs.Refusals.{Out, accepted, refused, numbers, table, notUtf8, valueTooLong, passes, refuseIf, _>>_}
+use Rattle.format.specs.Refusals.{Out, accepted, refused, numbers, table, notUtf8, passes, refuseIf, _>>_}
 use Rattle.format.specs.Limits.{maxValue}
 use Rattle.format.specs.Validators.{headerValue, utf8}
 use Rattle.format.specs.Message.{LoneHeader, needAlone}
@@ -18,7 +18,8 @@ use Rattle.format.specs.Layout.{HoldsAlone, HeldAlone, header, layoutAlone, hea
 use Rattle.format.specs.Lending.{LentHeader, headerNumbers, laidAlone, makesHeader, MadeHeader, leavesHeader, ParamSet}
 use Rattle.format.specs.declared.Numbers.{Numbers}
 use Rattle.format.specs.declared.HeaderAnswer.{HeaderAnswer}
-use Rattle.format.proofs.Steps.{then-bind, atMost-passes, refuseUnless-passed}
+use Rattle.format.proofs.Steps.{then-bind}
+use Rattle.format.proofs.Rulesets.{checks}
 use Rattle.format.proofs.Answers.{room-short, room-enough}
 use Rattle.octets.proofs.Paste.{pasted-pasted, pasted-start}
 use Rattle.held.specs.Holding.{headerHolds}
@@ -37,7 +38,7 @@ text-fails s h = not-text (isUtf8 s) h
 
 pub text-passes : (s : Bytes) → isUtf8 s ≡ true → passes (utf8 s) ≡ true
 unfolding utf8
-text-passes s h = refuseUnless-passed (isUtf8 s) notUtf8 h
+text-passes s h = simp checks h
 
 -- two texts at once
 pub both-texts : (a b : Bytes) (s t : Bool) → s ≡ isUtf8 a → t ≡ isUtf8 b → (s && t) ≡ (isUtf8 a && isUtf8 b)
@@ -84,12 +85,12 @@ module _ (name value : Bytes) (l k : LentHeader) (n : Numbers) where
       → ParamSet name value l k n
   when-held t u does =
       held-by t
-      (λ h a. does-passed l k n (refuseIf (not (isUtf8 name && isUtf8 value)) notUtf8) _ (refuseUnless-passed (isUtf8 name && isUtf8 value) notUtf8 u) (does h a))
+      (λ h a. does-passed l k n (refuseIf (not (isUtf8 name && isUtf8 value)) notUtf8) _ (simp checks u) (does h a))
 
 -- `new`
 pub value-short : (v : Bytes) → passes (headerValue v) ≡ true → length v ≤ maxValue
 unfolding headerValue
-value-short v h = atMost-passes maxValue valueTooLong (length v) h
+value-short v h = simp checks at h
 
 abbrev pub fresh : Bytes → LoneHeader
 fresh v = record { value = v; params = [] }

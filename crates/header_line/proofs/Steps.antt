@@ -18,7 +18,8 @@ use Rattle.format.specs.Lending.{lengths, leaves}
 use Rattle.format.specs.Reading.{each, readParam, checkedValue, readValue, readNameAndValue, readHeader, readLine}
 use Rattle.format.specs.declared.Numbers.{Numbers}
 use Rattle.format.proofs.Lists.{rest-is}
-use Rattle.format.proofs.Steps.{then-accepted, bind-passed, refuseUnless-passed}
+use Rattle.format.proofs.Steps.{bind-passed}
+use Rattle.format.proofs.Rulesets.{checks}
 use Rattle.format.proofs.Splitting.SplitUtf8.{upTo-utf8}
 use Rattle.octets.proofs.Find.{found-upTo, found-past, found-has}
 use Rattle.placing.specs.Placing.{Does}
@@ -74,7 +75,7 @@ module _ (line : Bytes) (at : ℕ) (found : at ≡ length (upTo colon line)) whe
       behind d =
           let some : has colon line ≡ true = found-has colon line at found ∙ lt-ltb at (length line) there in
           subst (Does l j n) (sym (steps line (lengths l) k))
-          (does-passed l j n (refuseIf (not (has colon line)) lacksColon) _ (refuseUnless-passed (has colon line) lacksColon some)
+          (does-passed l j n (refuseIf (not (has colon line)) lacksColon) _ (simp checks some)
           (subst (λ (s : Bytes). Does l j n (_>>=_ (readLeft (split (semicolon ∷ []) s)) (λ ps. appendRead (trim ((split (semicolon ∷ []) s) .first)) (readValue (past colon line)) ps (lengths l) k)))
           (sym (found-upTo colon line at found)) d))
 
@@ -108,7 +109,7 @@ module _ (line : Bytes) (at : ℕ) (found : at ≡ length (upTo colon line)) whe
 pub name-fits : (left : Pieces) (ps : List Entry) (name : Bytes) → readLeft left ≡ accepted ps → name ≡ trim (left .first) → length name < 256
 unfolding readLeft
 name-fits left ps name e a =
-    let h = then-accepted (headerName (trim (left .first))) (each readParam (left .rest) []) ps e .1 in
+    let h = (simp checks at e) .0 in
     omega (arith, name-short name (ap (λ (s : Bytes). passes (headerName s)) a ∙ h))
 
 -- the name stands before the first `;`

@@ -8,7 +8,6 @@ use native.Mathlib.Omega.{arith}
 use lib.Dec.{eqb}
 use lib.ListN.{length, take, drop, replicate, length-drop}
 use lib.Seq.{take-add, drop-drop, length-take-le}
-use borrow.Author.Tests.{leb-true, le-leb}
 use Rattle.format.specs.Bytes.{Bytes, all, total, texts}
 use Rattle.format.specs.Characters.{isUtf8}
 use Rattle.format.specs.Limits.{maxParams}
@@ -17,7 +16,7 @@ use Rattle.format.specs.Validators.{headerValue}
 use Rattle.format.specs.Message.{LoneHeader, needEntry, needAlone, validAlone}
 use Rattle.format.specs.Layout.{layoutEntry, layoutAlone, headerOf, HoldsAlone}
 use Rattle.format.specs.declared.CpimHeader.{CpimHeader}
-use Rattle.format.proofs.Lists.{and-intro}
+use Rattle.format.proofs.Rulesets.{tests}
 use Rattle.format.proofs.Messages.Layout.{entries-length}
 use Rattle.format.proofs.Messages.Parts as valid
 use Rattle.entries.proofs.Zeros.{all-zero, zero-all}
@@ -27,7 +26,7 @@ use Rattle.judging.specs.Listed.{entriesFrom}
 use Rattle.held.specs.Decoding.{headerIn}
 use Rattle.judging.specs.declared.kinds.Kind.the-variants.{Param}
 use Rattle.judging.proofs.Entries.{params-listed, params-hold}
-use Rattle.held.proofs.Parts.{both, alone-parts}
+use Rattle.held.proofs.Parts.{alone-parts}
 
 -- What the sizes say.
 pub record Sized (r : CpimHeader) (store : ℕ) : Type 0 where
@@ -37,25 +36,11 @@ pub record Sized (r : CpimHeader) (store : ℕ) : Type 0 where
 
 pub sizes-parts : (r : CpimHeader) (store : ℕ) → sizesHold r store ≡ true → Sized r store
 unfolding sizesHold
-sizes-parts r store h =
-    let a = both _ _ h in
-    let b = both _ _ (a .1) in
-    let c = both _ _ (b .1) in
-    record {
-      whole = leb-true (r .size) store (a .0);
-      used = sums (r .size) (r .valuelen) (leb-true 16 (r .size) (b .0)) (leb-true (r .valuelen) (r .size - 16) (c .0));
-      few = leb-true (r .params) maxParams (c .1);
-    }
-  where
-    sums : (n v : ℕ) → 16 ≤ n → v ≤ n - 16 → 16 + v ≤ n
-    sums n v p q = omega arith
+sizes-parts r store h = omega (arith, simp tests at h)
 
 pub parts-sizes : (r : CpimHeader) (store : ℕ) → Sized r store → sizesHold r store ≡ true
 unfolding sizesHold
-parts-sizes r store s =
-    and-intro _ _ (le-leb (r .size) store (s .whole))
-    (and-intro _ _ (le-leb 16 (r .size) (omega (arith, s .used)))
-    (and-intro _ _ (le-leb (r .valuelen) (r .size - 16) (omega (arith, s .used))) (le-leb (r .params) maxParams (s .few))))
+parts-sizes r store s = simp tests (omega arith)
 
 -- What is held passes.
 pub holds-alone-held : (r : CpimHeader) (store : Bytes) (h : LoneHeader) → HoldsAlone r store h → headerHolds r store ≡ true
@@ -69,10 +54,8 @@ holds-alone-held r store h w =
     ap (entriesHold Param (r .params) []) (p .params-part)
     ∙ ap (λ (n : ℕ). entriesHold Param n [] (texts layoutEntry (h .params))) (p .params)
     ∙ params-hold (h .params) (v .params .each) (v .params .ordered) in
-    and-intro _ _ sizes
-    (and-intro _ _ (ap (all (eqb 0)) (p .zeros) ∙ zero-all 16)
-    (and-intro _ _ (ap (λ (x : Bytes). passes (headerValue x)) (p .value-part) ∙ v .valued)
-    (and-intro _ _ (ap isUtf8 (p .value-part) ∙ v .value-utf8) params)))
+    let zeros : all (eqb 0) (take 16 store) ≡ true = ap (all (eqb 0)) (p .zeros) ∙ zero-all 16 in
+    simp tests (sizes, (zeros, (rw (p .value-part) (v .valued), (rw (p .value-part) (v .value-utf8), params))))
 
 -- What passes, part by part.
 record Passed (r : CpimHeader) (store : Bytes) : Type 0 where
@@ -84,12 +67,7 @@ record Passed (r : CpimHeader) (store : Bytes) : Type 0 where
 
 passed : (r : CpimHeader) (store : Bytes) → headerHolds r store ≡ true → Passed r store
 unfolding headerHolds
-passed r store h =
-    let a = both _ _ h in
-    let b = both _ _ (a .1) in
-    let c = both _ _ (b .1) in
-    let d = both _ _ (c .1) in
-    record { sizes = sizes-parts r (length store) (a .0); zeros = b .0; valued = c .0; value-utf8 = d .0; params = d .1 }
+passed r store h = search (sizes-parts, simp tests at h)
 
 -- the parts of the header store, one behind another
 store-parts : (v p : ℕ) (store : Bytes) → take (16 + (v + p)) store ≡ take 16 store ++ (take v (drop 16 store) ++ take p (drop (16 + v) store))

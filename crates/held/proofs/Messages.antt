@@ -9,7 +9,6 @@ use native.Mathlib.Omega.{arith}
 use lib.Dec.{eqb}
 use lib.ListN.{length, take, drop, replicate, length-drop, take-append-drop}
 use lib.Seq.{take-at, drop-at, take-add, drop-drop, length-take-le}
-use borrow.Author.Tests.{leb-true, le-leb}
 use Rattle.format.specs.Bytes.{Bytes, all, total, texts}
 use Rattle.format.specs.Characters.{isUtf8}
 use Rattle.format.specs.Limits.{maxHeaders, maxContents, maxBody}
@@ -18,7 +17,7 @@ use Rattle.format.specs.Validators.{contentType}
 use Rattle.format.specs.Message.{Message, needEntry, needHeader, need, valid}
 use Rattle.format.specs.Layout.{layoutEntry, layoutHeader, layout, recordOf, Lent, BodyAt, Holds}
 use Rattle.format.specs.declared.CpimMessage.{CpimMessage}
-use Rattle.format.proofs.Lists.{and-intro}
+use Rattle.format.proofs.Rulesets.{tests}
 use Rattle.format.proofs.Messages.Layout.{entries-length, headers-length}
 use Rattle.format.proofs.Messages.Parts.{message-parts, message-whole}
 use Rattle.entries.proofs.Zeros.{all-zero, zero-all}
@@ -29,7 +28,7 @@ use Rattle.held.specs.Decoding.{messageIn}
 use Rattle.judging.specs.declared.kinds.Kind.the-variants.{Content}
 use Rattle.judging.proofs.Entries.{contents-listed, contents-hold}
 use Rattle.judging.proofs.Headers.{headers-listed, headers-hold}
-use Rattle.held.proofs.Parts.{both, padded, held-parts}
+use Rattle.held.proofs.Parts.{padded, held-parts}
 
 -- What the numbers say.
 pub record Numbered (m : CpimMessage) (store : ℕ) : Type 0 where
@@ -42,44 +41,18 @@ pub record Numbered (m : CpimMessage) (store : ℕ) : Type 0 where
 
 pub numbers-parts : (m : CpimMessage) (store : ℕ) → numbersHold m store ≡ true → Numbered m store
 unfolding numbersHold
-numbers-parts m store h =
-    let a = both _ _ h in
-    let b = both _ _ (a .1) in
-    let c = both _ _ (b .1) in
-    let d = both _ _ (c .1) in
-    let e = both _ _ (d .1) in
-    let f = both _ _ (e .1) in
-    let start : 256 ≤ store = leb-true 256 store (a .0) in
-    let headers : m .headerlen ≤ store - 256 = leb-true (m .headerlen) (store - 256) (c .0) in
-    let contents : m .contentlen ≤ store - 256 - m .headerlen = leb-true (m .contentlen) (store - 256 - m .headerlen) (d .0) in
-    record {
-      start = start;
-      type-short = leb-true (m .typelen) 256 (b .0);
-      used = sums (m .headerlen) (m .contentlen) start headers contents;
-      headers = leb-true (m .headers) maxHeaders (e .0);
-      contents = leb-true (m .contents) maxContents (f .0);
-      body = leb-true (m .bodylen) maxBody (f .1);
-    }
-  where
-    sums : (h c : ℕ) → 256 ≤ store → h ≤ store - 256 → c ≤ store - 256 - h → 256 + h + c ≤ store
-    sums h c p q r = omega arith
+numbers-parts m store h = omega (arith, simp tests at h)
 
 pub parts-numbers : (m : CpimMessage) (store : ℕ) → Numbered m store → numbersHold m store ≡ true
 unfolding numbersHold
-parts-numbers m store n =
-    and-intro _ _ (le-leb 256 store (n .start))
-    (and-intro _ _ (le-leb (m .typelen) 256 (n .type-short))
-    (and-intro _ _ (le-leb (m .headerlen) (store - 256) (omega (arith, n .used)))
-    (and-intro _ _ (le-leb (m .contentlen) (store - 256 - m .headerlen) (omega (arith, n .used)))
-    (and-intro _ _ (le-leb (m .headers) maxHeaders (n .headers))
-    (and-intro _ _ (le-leb (m .contents) maxContents (n .contents)) (le-leb (m .bodylen) maxBody (n .body)))))))
+parts-numbers m store n = simp tests (omega arith)
 
 -- the first 256 bytes of a message
 type-holds : (t : Bytes) → passes (contentType t) ≡ true → isUtf8 t ≡ true → typeHolds (length t) (padded t) ≡ true
 unfolding typeHolds
 type-holds t h u =
     let zeros : Bytes = replicate (256 - length t) 0 in
-    rw (take-at t zeros (length t) refl, drop-at t zeros (length t) refl) (and-intro _ _ h (and-intro _ _ u (zero-all (256 - length t))))
+    rw (take-at t zeros (length t) refl, drop-at t zeros (length t) refl) (simp tests (h, (u, zero-all (256 - length t))))
 
 -- What is held passes.
 pub holds-held : (l : Lent) (k : Message) → Holds l k → messageHolds (l .message) (l .head) ≡ true
@@ -108,7 +81,7 @@ holds-held l k h =
     ap (entriesHold Content (m .contents) []) (p .contents-part)
     ∙ ap (λ (n : ℕ). entriesHold Content n [] (texts layoutEntry (k .contents))) (p .contents)
     ∙ contents-hold (k .contents) (w .contents .each) (w .contents .ordered) in
-    and-intro _ _ numbers (and-intro _ _ type (and-intro _ _ headers contents))
+    simp tests (numbers, (type, (headers, contents)))
 
 -- What passes is held.
 
@@ -138,20 +111,7 @@ record Passed (m : CpimMessage) (head : Bytes) : Type 0 where
 
 passed : (m : CpimMessage) (head : Bytes) → messageHolds m head ≡ true → Passed m head
 unfolding messageHolds typeHolds
-passed m head h =
-    let a = both _ _ h in
-    let b = both _ _ (a .1) in
-    let c = both _ _ (b .1) in
-    let t = both _ _ (b .0) in
-    let u = both _ _ (t .1) in
-    record {
-      numbers = numbers-parts m (length head) (a .0);
-      type = t .0;
-      type-utf8 = u .0;
-      zeros = u .1;
-      headers = c .0;
-      contents = c .1;
-    }
+passed m head h = search (numbers-parts, simp tests at h)
 
 module _ (m : CpimMessage) (head : Bytes) (p : Passed m head) where
   type-length : length (typePart head) ≡ 256

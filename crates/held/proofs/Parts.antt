@@ -2,7 +2,7 @@
 -- room. Assumes nothing.
 use Prim.Native.Nat.{ℕ, _+_, _-_, _≤_}
 use mathlib.Core.Path.{_≡_, refl, sym, ap, _∙_}
-use mathlib.Core.Bool.{Bool, true, _&&_}
+use mathlib.Core.Bool.{true}
 use mathlib.Core.List.{_++_, map, append-assoc}
 use native.Mathlib.Omega.{arith}
 use lib.ListN.{length, take, drop, replicate, length-append, length-replicate, take-append-drop}
@@ -11,16 +11,11 @@ use Rattle.format.specs.Bytes.{Bytes, total, texts}
 use Rattle.format.specs.Message.{LoneHeader, Message, needEntry, needHeader, needAlone, need}
 use Rattle.format.specs.Layout.{layoutEntry, layoutHeader, layout, layoutAlone, recordOf, headerOf, Lent, Holds, HoldsAlone}
 use Rattle.format.specs.declared.CpimHeader.{CpimHeader}
-use Rattle.format.proofs.Lists.{and-left, and-right}
 use Rattle.format.proofs.Messages.Layout.{entries-length, headers-length, contentType-length, layout-length, layoutAlone-length, taken}
 use Rattle.format.proofs.Messages.Parts.{message-parts}
 use Rattle.entries.specs.Stored.{storedEntry, storedHeader, shapedAll, entriesIn}
 use Rattle.entries.proofs.Layouts.{contents-shaped, contents-read, headers-shaped, headers-read}
 use Rattle.held.specs.Holding.{typePart, headersPart, contentsPart, valuePart, paramsPart}
-
--- two tests at once, taken apart
-pub both : (a b : Bool) → (a && b) ≡ true → (a ≡ true) × (b ≡ true)
-both a b h = (and-left a b h, and-right a b h)
 
 -- a part from a place on, of so many bytes
 pub part-of : (at n : ℕ) (s : Bytes) → take (at + n - at) (drop at s) ≡ take n (drop at s)

@@ -6,18 +6,17 @@ use mathlib.Core.Bool.{Bool, true, false, not, _&&_, false≢true}
 use mathlib.Core.List.{List, [], _∷_, _++_, map}
 use lib.Dec.{eqb}
 use lib.ListN.{length, drop, length-map}
-use borrow.Author.Tests.{eqb-true}
 use Rattle.format.specs.Bytes.{Bytes, isEmpty, all, texts}
 use Rattle.format.specs.Characters.{isUtf8}
-use Rattle.format.specs.Refusals.{paramNameEmpty, refuseIf, passes}
+use Rattle.format.specs.Refusals.{passes}
 use Rattle.format.specs.Validators.{paramName}
 use Rattle.format.specs.Message.{Entry, entryName, increasing, validParam, validContent}
 use Rattle.format.specs.Layout.{layoutEntry}
-use Rattle.format.proofs.Lists.{and-left, and-right, and-intro, all-head, all-tail, all-map}
-use Rattle.format.proofs.Steps.{then-passes, refuseIf-passes}
+use Rattle.format.proofs.Lists.{all-head, all-tail, all-map}
+use Rattle.format.proofs.Rulesets.{tests, checks}
 use Rattle.format.proofs.Messages.Checked.{name-checked}
 use Rattle.format.proofs.Messages.Parts.{param-parts, content-parts}
-use Rattle.entries.specs.Stored.{Stored, storedBytes, storedEntry, sizeIn, nameIn, storedIn, shaped, shapedAll, entriesIn}
+use Rattle.entries.specs.Stored.{Stored, storedBytes, storedEntry, sizeIn, nameIn, shapedAll, entriesIn}
 use Rattle.entries.proofs.Shapes.{shape-shaped}
 use Rattle.entries.proofs.Reading.{read-shape, read-stored, read-name, read-rest}
 use Rattle.entries.proofs.Sequences.{entries-bytes, entries-length}
@@ -52,11 +51,8 @@ pub holds-shaped : (k : Kind) (n : ℕ) (last s : Bytes) → entriesHold k n las
 unfolding entriesHold entryHolds shapedAll
 holds-shaped k zero last s h = h
 holds-shaped k (suc n) last s h =
-    let next = entriesHold k n (nameIn s) (drop (sizeIn s) s) in
-    let here = fits k (storedIn s) && follows k last (nameIn s) in
-    let a = and-left (shaped s && here) next h in
-    let b = and-right (shaped s && here) next h in
-    and-intro (shaped s) (shapedAll n (drop (sizeIn s) s)) (and-left (shaped s) here a) (holds-shaped k n (nameIn s) (drop (sizeIn s) s) b)
+    let p = simp tests at h in
+    simp tests (p .0 .0, holds-shaped k n (nameIn s) (drop (sizeIn s) s) (p .1))
 
 -- What passes the walk: entries that fit, their names in order.
 pub record Walked (k : Kind) (n : ℕ) (last s : Bytes) : Type 0 where
@@ -70,15 +66,12 @@ holds-walked k n last s h =
     let b = entries-bytes n s (holds-shaped k n last s h) in
     let w : (all (fits k) es && linked k storedName last es) ≡ true =
     sym (entries-walk k last es) ∙ ap (λ (i : ℕ). entriesHold k i last (texts storedBytes es)) (entries-length n s) ∙ ap (entriesHold k n last) (sym b) ∙ h in
-    record {
-      bytes = b;
-      each = and-left (all (fits k) es) (linked k storedName last es) w;
-      names = and-right (all (fits k) es) (linked k storedName last es) w;
-    }
+    let p = simp tests at w in
+    record { bytes = b; each = p .0; names = p .1 }
 
 pub walked-holds : (k : Kind) (last : Bytes) (es : List Stored) → all (fits k) es ≡ true → linked k storedName last es ≡ true
     → entriesHold k (length es) last (texts storedBytes es) ≡ true
-walked-holds k last es h g = entries-walk k last es ∙ and-intro (all (fits k) es) (linked k storedName last es) h g
+walked-holds k last es h g = rw (entries-walk k last es) (simp tests (h, g))
 
 pub all-mapped : {A B : Type 0} (p : B → Bool) (q : A → Bool) (f : A → B) → ((x : A) → p (f x) ≡ q x) → (xs : List A) → all p (map f xs) ≡ all q xs
 unfolding all
@@ -131,8 +124,8 @@ module _ (k : Kind) (passed : Entry → Bool)
 -- an entry without parameters
 no-tail : (n : ℕ) (t : Bytes) → (eqb n 0 && isEmpty t) ≡ true → (n ≡ 0) × (t ≡ [])
 unfolding isEmpty
-no-tail n [] h = (eqb-true n 0 (and-left (eqb n 0) true h), refl)
-no-tail n (b ∷ t) h = absurd (false≢true (and-right (eqb n 0) false h))
+no-tail n [] h = ((simp tests at h) .0, refl)
+no-tail n (b ∷ t) h = absurd (false≢true ((simp tests at h) .1))
 
 -- What an entry that fits is.
 pub record Fit (k : Kind) (e : Stored) : Type 0 where
@@ -144,26 +137,11 @@ pub record Fit (k : Kind) (e : Stored) : Type 0 where
 
 pub fits-parts : (k : Kind) (e : Stored) → fits k e ≡ true → Fit k e
 unfolding fits
-fits-parts k e h =
-    let texts = isUtf8 (e .name) && isUtf8 (e .value) in
-    let params = paramsFit k (e .params) (e .tail) in
-    let value = passes (valueCheck k (e .value)) in
-    let name = passes (nameCheck k (e .name)) in
-    let a = and-right name (value && (params && texts)) h in
-    let b = and-right value (params && texts) a in
-    let c = and-right params texts b in
-    record {
-      named = and-left name (value && (params && texts)) h;
-      valued = and-left value (params && texts) a;
-      params = and-left params texts b;
-      name-utf8 = and-left (isUtf8 (e .name)) (isUtf8 (e .value)) c;
-      value-utf8 = and-right (isUtf8 (e .name)) (isUtf8 (e .value)) c;
-    }
+fits-parts k e h = search (simp tests at h)
 
 pub parts-fit : (k : Kind) (e : Stored) → Fit k e → fits k e ≡ true
 unfolding fits
-parts-fit k e f =
-    and-intro _ _ (f .named) (and-intro _ _ (f .valued) (and-intro _ _ (f .params) (and-intro _ _ (f .name-utf8) (f .value-utf8))))
+parts-fit k e f = simp tests (search)
 
 bare-stored : (x : Stored) → (eqb (x .params) 0 && isEmpty (x .tail)) ≡ true → storedEntry (entryFrom x) ≡ x
 unfolding storedEntry entryFrom
@@ -182,7 +160,7 @@ param-bare x h = bare-stored x (fits-parts Param x h .params)
 
 param-name-filled : (s : Bytes) → passes (paramName s) ≡ true → isEmpty s ≡ false
 unfolding paramName
-param-name-filled s h = refuseIf-passes (isEmpty s) paramNameEmpty (then-passes (refuseIf (isEmpty s) paramNameEmpty) _ h .0)
+param-name-filled s h = (simp checks at h) .0
 
 param-filled : (e : Entry) → validParam e ≡ true → not (isEmpty (e .name)) ≡ true
 param-filled e h = ap not (param-name-filled (e .name) (param-parts e h .named))

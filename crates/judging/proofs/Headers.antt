@@ -10,7 +10,8 @@ use Rattle.format.specs.Bytes.{Bytes, isEmpty, all, texts}
 use Rattle.format.specs.Limits.{maxParams}
 use Rattle.format.specs.Message.{Header, nameOf, ascending, validHeader}
 use Rattle.format.specs.Layout.{layoutHeader}
-use Rattle.format.proofs.Lists.{and-left, and-right, and-intro, all-head, all-tail, all-cons, all-map}
+use Rattle.format.proofs.Lists.{all-head, all-tail, all-cons, all-map}
+use Rattle.format.proofs.Rulesets.{tests}
 use Rattle.format.proofs.Messages.Checked.{name-checked}
 use Rattle.format.proofs.Messages.Parts.{header-parts, header-whole}
 use Rattle.entries.specs.Stored.{Stored, storedBytes, storedHeader, entriesIn}
@@ -35,7 +36,7 @@ all-both : {A : Type 0} (p q : A → Bool) (xs : List A) → all p xs ≡ true �
 unfolding all
 all-both p q [] h g = refl
 all-both p q (x ∷ xs) h g =
-    all-cons (λ x. p x && q x) x xs (and-intro (p x) (q x) (all-head p x xs h) (all-head q x xs g)) (all-both p q xs (all-tail p x xs h) (all-tail q x xs g))
+    all-cons (λ x. p x && q x) x xs (simp tests (all-head p x xs h, all-head q x xs g)) (all-both p q xs (all-tail p x xs h) (all-tail q x xs g))
 
 -- a header that fits, and its parameters
 abbrev whole : Stored → Bool
@@ -45,14 +46,15 @@ whole e = fits kind.Header e && tailHolds e
 header-back : (e : Stored) → whole e ≡ true → storedHeader (headerFrom e) ≡ e
 unfolding storedHeader headerFrom tailHolds
 header-back e h =
-    let l = params-listed (e .params) (e .tail) (and-right (fits kind.Header e) (tailHolds e) h) in
+    let l = params-listed (e .params) (e .tail) ((simp tests at h) .1) in
     λ i. record { name = e .name; value = e .value; params = l .count i; tail = sym (l .bytes) i }
 
 header-valid : (e : Stored) → whole e ≡ true → validHeader (headerFrom e) ≡ true
 unfolding headerFrom tailHolds nameCheck valueCheck paramsFit
 header-valid e h =
-    let f = fits-parts kind.Header e (and-left (fits kind.Header e) (tailHolds e) h) in
-    let l = params-listed (e .params) (e .tail) (and-right (fits kind.Header e) (tailHolds e) h) in
+    let p = simp tests at h in
+    let f = fits-parts kind.Header e (p .0) in
+    let l = params-listed (e .params) (e .tail) (p .1) in
     header-whole _
     (record {
       named = f .named;
@@ -103,8 +105,9 @@ unfolding headersHold headersFrom
 headers-listed n s h =
     let xs = entriesIn n s in
     let hs = map headerFrom xs in
-    let w = holds-walked kind.Header n [] s (and-left (entriesHold kind.Header n [] s) (all tailHolds xs) h) in
-    let each = all-both (fits kind.Header) tailHolds xs (w .each) (and-right (entriesHold kind.Header n [] s) (all tailHolds xs) h) in
+    let p = simp tests at h in
+    let w = holds-walked kind.Header n [] s (p .0) in
+    let each = all-both (fits kind.Header) tailHolds xs (w .each) (p .1) in
     let back : map storedHeader hs ≡ xs = map-back whole headerFrom storedHeader header-back xs each in
     record {
       bytes = w .bytes ∙ ap (texts storedBytes) (sym back) ∙ sym (headers-bytes hs);
@@ -122,5 +125,4 @@ headers-hold hs h g =
     rw (headers-bytes hs, sym (length-map hs storedHeader))
     (walked-holds kind.Header [] (map storedHeader hs) (all-made validHeader (fits kind.Header) storedHeader header-fits hs h)
     (names-linked [] hs ∙ ordered-linked kind.Header nameOf [] hs one (ordered-ascending nameOf hs ∙ g))) in
-    and-intro (entriesHold kind.Header (length hs) [] (texts layoutHeader hs)) (all tailHolds (entriesIn (length hs) (texts layoutHeader hs)))
-    walk (ap (all tailHolds) (headers-read hs) ∙ all-made validHeader tailHolds storedHeader header-tail hs h)
+    simp tests (walk, ap (all tailHolds) (headers-read hs) ∙ all-made validHeader tailHolds storedHeader header-tail hs h)

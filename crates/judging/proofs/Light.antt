@@ -8,11 +8,11 @@ use native.Mathlib.Numerals.{add-one}
 use lib.Dec.{leb, ltb}
 use lib.ListN.{length, drop, getD, drop-of-length-le}
 use lib.Seq.{drop-cons}
-use borrow.Author.Tests.{leb-false, lt-ltb, ltb-true}
 use Rattle.format.specs.Bytes.{Bytes, all, any, total}
 use Rattle.format.specs.Characters.{isAsciiControl, isUtf8}
 use Rattle.format.specs.Validators.{reservedInName, reservedInParamName, reservedInParamValue}
-use Rattle.format.proofs.Lists.{and-left, and-right, or-false-left, or-false-right, all-cons}
+use Rattle.format.proofs.Lists.{all-cons}
+use Rattle.format.proofs.Rulesets.{tests}
 use Rattle.format.proofs.Characters.Chars.{utf8-ascii-text}
 use Rattle.judging.specs.Weights.{graded, weight, weightsFrom, weights, isLight}
 
@@ -67,7 +67,7 @@ module _ (b : ℕ) where
   plain h = graded-plain (isAsciiControl b || leb 0x80 b) (reservedInParamValue b) (reservedInParamName b || reservedInName b) h
 
   pub light-control : weight b < 255 → isAsciiControl b ≡ false
-  light-control h = or-false-left (isAsciiControl b) (leb 0x80 b) (plain h)
+  light-control h = (simp tests at (plain h)) .0
 
   pub light-value : weight b < 32 → reservedInParamValue b ≡ false
   unfolding weight
@@ -78,15 +78,13 @@ module _ (b : ℕ) where
   named h = graded-name (isAsciiControl b || leb 0x80 b) (reservedInParamValue b) (reservedInParamName b || reservedInName b) h
 
   pub light-param-name : weight b < 1 → reservedInParamName b ≡ false
-  light-param-name h = or-false-left (reservedInParamName b) (reservedInName b) (named h)
+  light-param-name h = (simp tests at (named h)) .0
 
   pub light-name : weight b < 1 → reservedInName b ≡ false
-  light-name h = or-false-right (reservedInParamName b) (reservedInName b) (named h)
+  light-name h = (simp tests at (named h)) .1
 
   light-ascii : weight b < 255 → ltb b 128 ≡ true
-  light-ascii h =
-      let l : b < 0x80 = leb-false 0x80 b (or-false-right (isAsciiControl b) (leb 0x80 b) (plain h)) in
-      lt-ltb b 128 (omega arith)
+  light-ascii h = simp tests ((simp tests at (plain h)) .1)
 
 -- no byte of a class is in a text that weighs less than any of its bytes
 pub none-light : (p : ℕ → Bool) (limit : ℕ) → ((b : ℕ) → weight b < limit → p b ≡ false) → (s : Bytes) → total weight s < limit → any p s ≡ false
@@ -106,8 +104,8 @@ utf8-light s h = utf8-ascii-text s (ascii-light s h)
 module _ (limit : ℕ) (s : Bytes) (h : isLight limit s ≡ true) where
   pub light-short : length s < 32
   unfolding isLight
-  light-short = ltb-true (length s) 32 (and-left (ltb (length s) 32) (ltb (total weight s) limit) h)
+  light-short = (simp tests at h) .0
 
   pub light-weight : total weight s < limit
   unfolding isLight
-  light-weight = ltb-true (total weight s) limit (and-right (ltb (length s) 32) (ltb (total weight s) limit) h)
+  light-weight = (simp tests at h) .1

@@ -6,7 +6,8 @@ use mathlib.Core.List.{List, [], _∷_, map}
 use borrow.Author.Tests.{not-true}
 use Rattle.format.specs.Bytes.{Bytes, isEmpty, all, before}
 use Rattle.format.specs.Message.{ascending, increasing}
-use Rattle.format.proofs.Lists.{and-left, and-right, and-intro, all-head, all-map}
+use Rattle.format.proofs.Lists.{all-head, all-map}
+use Rattle.format.proofs.Rulesets.{tests}
 use Rattle.format.proofs.Messages.Order.{before-transitive, not-before-transitive}
 use Rattle.judging.specs.Kinds.{follows}
 use Rattle.judging.specs.declared.kinds.Kind.{Kind}
@@ -46,17 +47,17 @@ module _ {A : Type 0} (k : Kind) (key : A → Bytes) where
   unfolding linked ordered all
   linked-ordered last [] h = (refl, refl)
   linked-ordered last (x ∷ xs) h =
-      let a = and-left (follows k last (key x)) (linked (key x) xs) h in
-      let r = linked-ordered (key x) xs (and-right (follows k last (key x)) (linked (key x) xs) h) in
-      let far = all-map (λ y. follows k (key x) (key y)) (λ y. follows k last (key y)) (λ y g. follows-transitive k last (key x) (key y) a g) xs (r .0) in
-      (and-intro (follows k last (key x)) (behind last xs) a far, and-intro (behind (key x) xs) (ordered xs) (r .0) (r .1))
+      let p = simp tests at h in
+      let r = linked-ordered (key x) xs (p .1) in
+      let far = all-map (λ y. follows k (key x) (key y)) (λ y. follows k last (key y)) (λ y g. follows-transitive k last (key x) (key y) (p .0) g) xs (r .0) in
+      simp tests ((p .0, far), r)
 
   pub ordered-linked : (last : Bytes) (xs : List A) → behind last xs ≡ true → ordered xs ≡ true → linked last xs ≡ true
   unfolding linked ordered all
   ordered-linked last [] h g = refl
   ordered-linked last (x ∷ xs) h g =
-      and-intro (follows k last (key x)) (linked (key x) xs) (all-head (λ y. follows k last (key y)) x xs h)
-      (ordered-linked (key x) xs (and-left (behind (key x) xs) (ordered xs) g) (and-right (behind (key x) xs) (ordered xs) g))
+      let p = simp tests at g in
+      simp tests (all-head (λ y. follows k last (key y)) x xs h, ordered-linked (key x) xs (p .0) (p .1))
 
   -- names that are not empty may all stand behind none
   pub behind-none : (xs : List A) → all (λ y. not (isEmpty (key y))) xs ≡ true → behind [] xs ≡ true

@@ -9,12 +9,11 @@ use lib.ListN.{length, take, drop, length-drop}
 use lib.Seq.{drop-drop}
 use borrow.Author.Tests.{eq-eqb, ne-eqb}
 use Rattle.format.specs.Bytes.{Bytes, isEmpty, all}
-use Rattle.format.proofs.Lists.{and-left}
+use Rattle.format.proofs.Rulesets.{tests}
 use Rattle.entries.specs.Stored.{nameLength, sizeIn, nameIn, storedIn, shaped, shapedAll, entriesIn}
 use Rattle.entries.proofs.Shapes.{within-size, within-numbers}
 use Rattle.entries.proofs.Sequences.{next-shaped, next-entry}
-use Rattle.judging.specs.Kinds.{follows}
-use Rattle.judging.specs.Judging.{fits, entryHolds, entriesHold, tailHolds}
+use Rattle.judging.specs.Judging.{entryHolds, entriesHold, tailHolds}
 use Rattle.judging.specs.declared.kinds.Kind.{Kind}
 
 -- one entry, and those behind it
@@ -42,7 +41,7 @@ end-empty s at h = go (drop at s) (length-drop at s)
 
 pub holds-shape : (k : Kind) (last s : Bytes) → entryHolds k last s ≡ true → shaped s ≡ true
 unfolding entryHolds
-holds-shape k last s h = and-left (shaped s) (fits k (storedIn s) && follows k last (nameIn s)) h
+holds-shape k last s h = (simp tests at h) .0
 
 -- i of count entries have been judged, up to the place at; the last name stands at from..to
 pub record Judged (k : Kind) (s : Bytes) (count at from to i : ℕ) : Type 0 where

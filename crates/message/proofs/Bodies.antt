@@ -8,11 +8,10 @@ use native.Mathlib.Omega.{arith}
 use lib.Dec.{leb}
 use lib.ListN.{length, take, drop, replicate, length-append, length-replicate, length-take}
 use lib.Seq.{drop-append-le, length-take-le, drop-at}
-use borrow.Author.Tests.{leb-true, le-leb}
 use Rattle.format.specs.Bytes.{Bytes, all, texts, total, pasted, over}
 use Rattle.format.specs.Characters.{isUtf8}
 use Rattle.format.specs.Limits.{maxBody}
-use Rattle.format.specs.Refusals.{Out, accepted, refused, numbers, table, Check, passes, notUtf8, bodyTooLong, refuseIf, _>>_}
+use Rattle.format.specs.Refusals.{Out, accepted, refused, numbers, table, Check, passes, bodyTooLong, refuseIf, _>>_}
 use Rattle.format.specs.Validators.{utf8}
 use Rattle.format.specs.Message.{Message, needEntry, needHeader, need}
 use Rattle.format.specs.Calls.{fresh, new, setBody, withBody, bodyLength, set-body, arguments, lends, headerHeld, change}
@@ -21,8 +20,7 @@ use Rattle.format.specs.Lending.{bothLent, lengths, laidIn, leaves, makes, numb
 use Rattle.format.specs.declared.Numbers.{Numbers}
 use Rattle.format.specs.declared.CpimMessage.{CpimMessage}
 use Rattle.format.specs.declared.Answer.{Answer}
-use Rattle.format.proofs.Lists.{and-left, and-right, and-intro}
-use Rattle.format.proofs.Steps.{atMost-passed, refuseUnless-passed}
+use Rattle.format.proofs.Rulesets.{tests, checks}
 use Rattle.format.proofs.Answers.{carried, over-limit}
 use Rattle.format.proofs.Messages.Layout.{over-same, layout-length}
 use Rattle.octets.proofs.Paste.{pasted-start}
@@ -53,7 +51,7 @@ utf8-refused t h = rw h refl
 
 pub utf8-passed : (t : Bytes) → isUtf8 t ≡ true → passes (utf8 t) ≡ true
 unfolding utf8
-utf8-passed t h = refuseUnless-passed (isUtf8 t) notUtf8 h
+utf8-passed t h = simp checks h
 
 -- the type over zeros
 drop-zeros : (n w : ℕ) → drop {A = ℕ} n (replicate w 0) ≡ replicate (w - n) 0
@@ -102,14 +100,13 @@ pub judged-both : (m : CpimMessage) (head store : Bytes) → Judged (bothLent m 
 judged-both m head store =
     record {
       some-held = λ h.
-          let s = leb-true (m .bodylen) (length store) (and-right (messageHolds m head) (leb (m .bodylen) (length store)) h) in
-          let long = length-take-le (m .bodylen) store s in (
+          let p = simp tests at h in
+          let long = length-take-le (m .bodylen) store (p .1) in (
             messageIn m head (take (m .bodylen) store),
-            held-holds m head (take (m .bodylen) store) (some store) (and-left (messageHolds m head) (leb (m .bodylen) (length store)) h) long (ap (λ (i : ℕ). take i store) long),
+            held-holds m head (take (m .bodylen) store) (some store) (p .0) long (ap (λ (i : ℕ). take i store) long),
           );
       none-held = λ k h.
-          and-intro (messageHolds m head) (leb (m .bodylen) (length store)) (holds-held (bothLent m head store) k h)
-          (le-leb (m .bodylen) (length store) (omega (arith, held-parts (bothLent m head store) k h .bodylen, ap length (h .stored), length-take (length (k .body)) store)));
+          simp tests (holds-held (bothLent m head store) k h, omega (arith, held-parts (bothLent m head store) k h .bodylen, ap length (h .stored), length-take (length (k .body)) store));
     }
 
 -- another body changes nothing in the head store
@@ -133,7 +130,7 @@ body-over b h f = sym (ap numbers (over-limit maxBody bodyTooLong (length b) h) 
 
 pub body-within : (b : Bytes) → length b ≤ maxBody → passes (bodyLength b) ≡ true
 unfolding bodyLength
-body-within b h = atMost-passed maxBody bodyTooLong (length b) h
+body-within b h = simp checks h
 
 -- a refusal that hands back no message, and one that hands back the record as it was
 module _ (m : CpimMessage) (head store : Bytes) (r : Answer) (i j : ℕ) (x : Check) (o : Out Message) where
@@ -169,4 +166,4 @@ module _ (m : CpimMessage) (head store b : Bytes) where
   unfolding arguments all lends headerHeld change
   body-done k n h s does =
       done-held (set-body b) (bothLent m head store) k n (messageHolds m head && leb (m .bodylen) (length store)) true (judged-both m head store) refl refl
-      (and-intro (messageHolds m head) (leb (m .bodylen) (length store)) h (le-leb (m .bodylen) (length store) s)) refl does
+      (simp tests (h, s)) refl does

@@ -7,8 +7,8 @@ use mathlib.Core.List.{List, [], _∷_}
 use native.Mathlib.Omega.{arith}
 use lib.ListN.{length}
 use Rattle.format.specs.Bytes.{Bytes, ascii}
-use Rattle.format.specs.Limits.{maxParamValue, maxParams}
-use Rattle.format.specs.Refusals.{paramValueTooLong, tooManyParams, Out, accepted, Check, passes, _>>_, _>>=_}
+use Rattle.format.specs.Limits.{maxParamValue}
+use Rattle.format.specs.Refusals.{Out, accepted, Check, passes, _>>_, _>>=_}
 use Rattle.format.specs.Validators.{headerName, headerValue, paramName, paramValue}
 use Rattle.format.specs.Message.{Entry, LoneHeader, Message, entry}
 use Rattle.format.specs.Calls.{Stores, with-subject-lang, change, aloneOf, addParam, setParam, paramCount, addHeaderObj, append}
@@ -16,14 +16,15 @@ use Rattle.format.specs.Layout.{Lent}
 use Rattle.format.specs.Lending.{headLent, lengths}
 use Rattle.format.specs.declared.Numbers.{Numbers}
 use Rattle.format.specs.declared.CpimMessage.{CpimMessage}
-use Rattle.format.proofs.Steps.{then-passes, then-passed, then-bind, atMost-passes, atMost-passed}
+use Rattle.format.proofs.Steps.{then-passed, then-bind}
+use Rattle.format.proofs.Rulesets.{checks}
 use Rattle.placing.specs.Placing.{Does}
 use Rattle.changing.proofs.Steps.{does-passed}
 use Rattle.message.proofs.Wrapping.{lang-put, lang-name, subject-name}
 
 pub param-short : (v : Bytes) → passes (paramValue v) ≡ true → length v ≤ maxParamValue
 unfolding paramValue
-param-short v h = atMost-passes maxParamValue paramValueTooLong (length v) (then-passes _ _ h .0)
+param-short v h = (simp checks at h) .0
 
 -- the parameter alone
 set-lang : (l : Bytes) → setParam (ascii "lang") l [] ≡ _>>_ (paramValue l) (accepted (entry (ascii "lang") l ∷ []))
@@ -31,7 +32,7 @@ unfolding setParam paramCount
 set-lang l =
     then-passed (paramName (ascii "lang")) _ lang-name
     ∙ ap (λ (o : Out (List Entry)). _>>_ (paramValue l) o)
-    (then-passed (paramCount 0) _ (atMost-passed maxParams tooManyParams 1 (omega arith)) ∙ ap accepted (lang-put l))
+    (then-passed (paramCount 0) _ (simp checks (omega arith)) ∙ ap accepted (lang-put l))
 
 -- the header alone
 lang-header : (v l : Bytes) → addParam (ascii "lang") l (record { value = v; params = [] })

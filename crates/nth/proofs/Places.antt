@@ -9,7 +9,7 @@ use lib.ListN.{length, drop}
 use lib.Seq.{drop-drop}
 use Rattle.format.specs.Bytes.{Bytes, total}
 use Rattle.format.specs.LookingUp.{nth}
-use Rattle.format.proofs.Lists.{and-left, and-right}
+use Rattle.format.proofs.Rulesets.{tests}
 use Rattle.entries.specs.Stored.{Stored, storedSize, sizeIn, storedIn, shaped, shapedAll, entriesIn}
 use Rattle.entries.proofs.Shapes.{shape}
 use Rattle.entries.proofs.Reading.{stored-size}
@@ -33,13 +33,14 @@ record Stands (s : Bytes) (at : ℕ) (o : Option Stored) : Type 0 where
 stands : (n count : ℕ) (s : Bytes) → shapedAll count s ≡ true → n < count → Stands s (total storedSize (entriesIn n s)) (nth n (entriesIn count s))
 unfolding nth shapedAll entriesIn total
 stands n zero s h l = absurd (omega arith)
-stands zero (suc count) s h l = record { shape-is = and-left (shaped s) (shapedAll count (drop (sizeIn s) s)) h; entry-is = refl }
+stands zero (suc count) s h l = record { shape-is = (simp tests at h) .0; entry-is = refl }
 stands (suc n) (suc count) s h l =
     let t = drop (sizeIn s) s in
-    let rest = stands n count t (and-right (shaped s) (shapedAll count t) h) (omega arith) in
+    let p = simp tests at h in
+    let rest = stands n count t (p .1) (omega arith) in
     let behind : drop (total storedSize (entriesIn n t)) t ≡ drop (storedSize (storedIn s) + total storedSize (entriesIn n t)) s =
     drop-drop (total storedSize (entriesIn n t)) (sizeIn s) s
-    ∙ ap (λ (k : ℕ). drop (k + total storedSize (entriesIn n t)) s) (sym (stored-size s (shape s (and-left (shaped s) (shapedAll count t) h)))) in
+    ∙ ap (λ (k : ℕ). drop (k + total storedSize (entriesIn n t)) s) (sym (stored-size s (shape s (p .0)))) in
     record { shape-is = ap shaped (sym behind) ∙ rest .shape-is; entry-is = rest .entry-is ∙ ap (λ (x : Bytes). some (storedIn x)) behind }
 
 -- as `pass_first` finds it

@@ -6,11 +6,9 @@ use mathlib.Core.Bool.{true}
 use mathlib.Core.List.{List, [], _∷_, _++_}
 use native.Mathlib.Omega.{arith}
 use lib.ListN.{length, drop, set, length-drop}
-use lib.Dec.{leb}
 use lib.Seq.{drop-drop}
-use borrow.Author.Tests.{leb-true}
 use Rattle.format.specs.Bytes.{Bytes, pasted, over}
-use Rattle.format.proofs.Lists.{and-left, and-right}
+use Rattle.format.proofs.Rulesets.{tests}
 use Rattle.octets.proofs.Paste.{pasted-start, pasted-more, stores-three}
 use Rattle.octets.proofs.Written.{Written, written-none, written-more, written-all, written-length}
 use Rattle.entries.specs.Stored.{nameLength, valueLength, paramCount}
@@ -24,11 +22,7 @@ row at s = (at + 16) ∷ nameLength s ∷ valueLength s ∷ paramCount s ∷ []
 next-front : (n : ℕ) (s : Bytes) → 0 < n → fronted n s ≡ true → (frontIn s ≤ length s) × (fronted (n - 1) (drop (frontIn s) s) ≡ true)
 unfolding fronted
 next-front zero s h f = absurd (omega arith)
-next-front (suc n) s h f =
-    rw (suc-less n) (
-      leb-true (frontIn s) (length s) (and-left (leb (frontIn s) (length s)) (fronted n (drop (frontIn s) s)) f),
-      and-right (leb (frontIn s) (length s)) (fronted n (drop (frontIn s) s)) f,
-    )
+next-front (suc n) s h f = rw (suc-less n) (simp tests at f)
 
 next-row : (n at : ℕ) (s : Bytes) → 0 < n → rowsIn n at s ≡ row at s ++ rowsIn (n - 1) (at + frontIn s) (drop (frontIn s) s)
 unfolding rowsIn

@@ -7,17 +7,15 @@ use mathlib.Core.Bool.{true}
 use mathlib.Core.List.{List, [], _∷_, _++_, map, append-assoc, append-nil}
 use mathlib.Core.Option.{Option, none, some}
 use native.Mathlib.Omega.{arith}
-use lib.Dec.{leb}
 use lib.ListN.{length, take, drop, length-append, length-drop, length-map, take-append-drop}
 use lib.Seq.{drop-at, drop-drop, drop-append-add}
-use borrow.Author.Tests.{le-leb}
 use Rattle.format.specs.Bytes.{Bytes, total, texts}
 use Rattle.format.specs.Message.{Entry, Header, Message}
 use Rattle.format.specs.Layout.{fixed, entryBytes, layoutEntry, layoutHeader, Holds}
 use Rattle.format.specs.Lending.{headLent}
 use Rattle.format.specs.LookingUp.{nth}
 use Rattle.format.specs.declared.CpimMessage.{CpimMessage}
-use Rattle.format.proofs.Lists.{and-intro}
+use Rattle.format.proofs.Rulesets.{tests}
 use Rattle.entries.specs.Stored.{Stored, storedBytes, storedSize, storedEntry, storedHeader, nameLength, valueLength, paramCount, nameIn, valueIn, storedIn}
 use Rattle.entries.proofs.Reading.{name-length, value-length, size-length, read-name, read-value, read-stored, read-shape}
 use Rattle.entries.proofs.Layouts.{entry-bytes, header-bytes}
@@ -126,7 +124,7 @@ pub laid-fronted : (xs : List Item) (s : Bytes) → Laid xs s → fronted (lengt
 unfolding fronted
 laid-fronted [] s l = refl
 laid-fronted (x ∷ xs) s l =
-    rw (front-size x s (l .0)) (and-intro (leb (itemSize x) (length s)) (fronted (length xs) (drop (itemSize x) s)) (le-leb (itemSize x) (length s) (l .0 .within)) (laid-fronted xs (drop (itemSize x) s) (l .1)))
+    rw (front-size x s (l .0)) (simp tests (l .0 .within, laid-fronted xs (drop (itemSize x) s) (l .1)))
 
 pub laid-rows : (xs : List Item) (at : ℕ) (s : Bytes) → Laid xs s → rowsIn (length xs) at s ≡ rowsFrom at xs
 unfolding rowsIn rowsFrom

@@ -16,7 +16,7 @@ use Rattle.format.specs.Lending.{headLent, laidIn, leaves}
 use Rattle.format.specs.declared.Numbers.{Numbers}
 use Rattle.format.specs.declared.CpimMessage.{CpimMessage}
 use Rattle.format.proofs.Lists.{clash}
-use Rattle.format.proofs.Steps.{refuseIf-passes, refuseIf-passed}
+use Rattle.format.proofs.Rulesets.{checks}
 use Rattle.format.proofs.Answers.{zero-passes, passed-numbers}
 use Rattle.format.proofs.Messages.Layout.{headers-length, entries-length, contentType-length}
 use Rattle.format.proofs.Messages.Parts.{message-parts}
@@ -43,8 +43,8 @@ module _ (m r : CpimMessage) (head after : Bytes) (n : Numbers) (k : Message) wh
   placed a s kept new =
       let check = room (length head) (need k) in
       placed-by (ltb (length head) (need k)) refl a s
-      (λ t. kept (λ z. clash t (refuseIf-passes (ltb (length head) (need k)) (noRoom (need k)) (zero-passes check n a z))))
-      (λ f. new (ap (λ (x : Numbers). x .number) (a ∙ sym (passed-numbers check (refuseIf-passed (ltb (length head) (need k)) (noRoom (need k)) f)))))
+      (λ t. kept (λ z. clash t (simp checks at (zero-passes check n a z))))
+      (λ f. new (ap (λ (x : Numbers). x .number) (a ∙ sym (passed-numbers check (simp checks f)))))
 
 -- The bytes before the headers.
 module _ (k : Message) (v : valid k ≡ true) where

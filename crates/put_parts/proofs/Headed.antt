@@ -5,9 +5,10 @@ use mathlib.Core.Bool.{Bool, true}
 use mathlib.Core.List.{[], _∷_}
 use lib.ListN.{drop}
 use Rattle.format.specs.Bytes.{Bytes, all}
-use Rattle.format.proofs.Lists.{and-left, and-right, all-head, all-tail}
-use Rattle.entries.specs.Stored.{Stored, sizeIn, storedIn, entriesIn}
-use Rattle.judging.specs.Judging.{fits, entriesHold, tailHolds, headersHold}
+use Rattle.format.proofs.Lists.{all-head, all-tail}
+use Rattle.format.proofs.Rulesets.{tests}
+use Rattle.entries.specs.Stored.{Stored, sizeIn, storedIn}
+use Rattle.judging.specs.Judging.{fits, tailHolds, headersHold}
 use Rattle.judging.specs.declared.kinds.Kind.the-variants.{Header}
 use Rattle.judging.proofs.Entries.{holds-shaped, holds-walked}
 use Rattle.put_parts.proofs.Passing.{left, Passing, left-start, left-next, passing-start, passing-on}
@@ -21,13 +22,11 @@ module _ (s : Bytes) (count : ℕ) where
   pub headed-start : headersHold count s ≡ true → Headed s count 0 0
   unfolding headersHold
   headed-start h =
-      let walk = entriesHold Header count [] s in
-      let tails = all tailHolds (entriesIn count s) in
-      let a = and-left walk tails h in
+      let p = simp tests at h in
       record {
-        passing = passing-start s count (holds-shaped Header count [] s a);
-        fitting = ap (all (fits Header)) (sym (left-start s count)) ∙ holds-walked Header count [] s a .each;
-        tails = ap (all tailHolds) (sym (left-start s count)) ∙ and-right walk tails h;
+        passing = passing-start s count (holds-shaped Header count [] s (p .0));
+        fitting = ap (all (fits Header)) (sym (left-start s count)) ∙ holds-walked Header count [] s (p .0) .each;
+        tails = ap (all tailHolds) (sym (left-start s count)) ∙ p .1;
       }
 
   module _ (at i : ℕ) (w : Headed s count at i) (more : i < count) where

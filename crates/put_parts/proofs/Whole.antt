@@ -2,7 +2,7 @@
 -- text. Assumes nothing.
 use Prim.Native.Nat.{ℕ, _+_, _-_, _≤_}
 use mathlib.Core.Path.{_≡_, ap, _∙_}
-use mathlib.Core.Bool.{true, _&&_}
+use mathlib.Core.Bool.{true}
 use mathlib.Core.List.{[]}
 use native.Mathlib.Omega.{arith}
 use lib.ListN.{length, take, drop, length-take, length-drop}
@@ -11,12 +11,13 @@ use Rattle.format.specs.Bytes.{Bytes, texts}
 use Rattle.format.specs.Characters.{replaced}
 use Rattle.format.specs.Writing.{headerLine, contentLine, ended, write}
 use Rattle.format.specs.declared.CpimMessage.{CpimMessage}
+use Rattle.format.proofs.Rulesets.{tests}
 use Rattle.judging.specs.Judging.{entriesHold, headersHold}
-use Rattle.held.specs.Holding.{typeHolds, numbersHold, typePart, headersPart, contentsPart, messageHolds}
+use Rattle.held.specs.Holding.{typePart, headersPart, contentsPart, messageHolds}
 use Rattle.judging.specs.Listed.{entriesFrom, headersFrom}
 use Rattle.held.specs.Decoding.{messageIn}
 use Rattle.judging.specs.declared.kinds.Kind.the-variants.{Content}
-use Rattle.held.proofs.Parts.{both, part-of}
+use Rattle.held.proofs.Parts.{part-of}
 use Rattle.held.proofs.Messages.{Numbered, numbers-parts}
 use Rattle.put_parts.proofs.Lengths.{contents-length, write-length}
 
@@ -37,15 +38,11 @@ module _ (m : CpimMessage) (head : Bytes) where
   module _ (h : messageHolds m head ≡ true) where
     pub numbered : Numbered m (length head)
     unfolding messageHolds
-    numbered = numbers-parts m (length head) (both _ _ h .0)
+    numbered = numbers-parts m (length head) ((simp tests at h) .0)
 
     walked : (headersHold (m .headers) (headersPart m head) ≡ true) × (entriesHold Content (m .contents) [] (contentsPart m head) ≡ true)
     unfolding messageHolds
-    walked =
-        let hs = headersHold (m .headers) (headersPart m head) in
-        let cs = entriesHold Content (m .contents) [] (contentsPart m head) in
-        let type = typeHolds (m .typelen) (typePart head) in
-        both hs cs (both type (hs && cs) (both (numbersHold m (length head)) (type && (hs && cs)) h .1) .1)
+    walked = (simp tests at h) .1 .1
 
     pub headers-hold : headersHold (m .headers) headersAt ≡ true
     headers-hold = ap (headersHold (m .headers)) headers-are ∙ walked .0

@@ -4,10 +4,8 @@ use mathlib.Core.Path.{_≡_, refl, sym, ap, subst, _∙_}
 use mathlib.Core.Bool.{true, false, false≢true, _&&_}
 use mathlib.Core.List.{List, [], _∷_}
 use native.Mathlib.Omega.{arith}
-use lib.Dec.{leb}
 use lib.ListN.{length, drop, length-drop}
 use lib.Seq.{drop-drop}
-use borrow.Author.Tests.{leb-true}
 use Rattle.format.specs.Bytes.{Bytes}
 use Rattle.format.specs.Calls.{Call, set-body, add-header-obj}
 use Rattle.format.specs.Lending.{headLent, bothLent, Changed, HeaderAdded}
@@ -15,7 +13,7 @@ use Rattle.format.specs.Runs.{State, Run, done}
 use Rattle.format.specs.declared.Numbers.{Numbers}
 use Rattle.format.specs.declared.CpimMessage.{CpimMessage}
 use Rattle.format.specs.declared.CpimHeader.{CpimHeader}
-use Rattle.format.proofs.Lists.{and-left, and-right}
+use Rattle.format.proofs.Rulesets.{tests}
 use Rattle.script.specs.Script.{state, heldAlone, numberIn, whole, argument, argumentSize, behind, headerRecord, bothWhole, headerWhole, Form, one, two, header, unknown, formOf, complete, called, kindOf, endOf}
 use Rattle.script.proofs.Places.{end-some}
 use Rattle.script.proofs.Ends.{next-behind, next-store}
@@ -95,11 +93,11 @@ module _ (t : Bytes) where
 module _ (s : Bytes) (at : ℕ) where
   pub first-whole : bothWhole (drop at s) ≡ true → whole (drop at s) ≡ true
   unfolding bothWhole
-  first-whole h = and-left _ _ h
+  first-whole h = (simp tests at h) .0
 
   pub name-whole : headerWhole (drop at s) ≡ true → whole (drop at s) ≡ true
   unfolding headerWhole
-  name-whole h = and-left _ _ h
+  name-whole h = (simp tests at h) .0
 
   module _ (next : ℕ) (w : whole (drop at s) ≡ true) (e : next ≡ endOf (whole (drop at s)) (at + argumentSize (drop at s))) where
     pub next-is : next ≡ at + argumentSize (drop at s)
@@ -107,7 +105,7 @@ module _ (s : Bytes) (at : ℕ) where
 
     pub second-whole : bothWhole (drop at s) ≡ true → whole (drop next s) ≡ true
     unfolding bothWhole
-    second-whole h = ap whole (next-behind s at next w next-is) ∙ and-right (whole (drop at s)) (whole (behind (drop at s))) h
+    second-whole h = ap whole (next-behind s at next w next-is) ∙ (simp tests at h) .1
 
     pub second-is : argument (drop next s) ≡ argument (behind (drop at s))
     second-is = ap argument (next-behind s at next w next-is)
@@ -115,14 +113,11 @@ module _ (s : Bytes) (at : ℕ) where
     pub record-within : headerWhole (drop at s) ≡ true → next + 12 ≤ length s
     unfolding headerWhole
     record-within h =
-        let long = leb-true 12 (length (behind (drop at s))) (and-left _ _ (and-right (whole (drop at s)) _ h)) in
-        omega (arith, long, ap length (next-behind s at next w next-is), length-drop next s)
+        omega (arith, simp tests at h, ap length (next-behind s at next w next-is), length-drop next s)
 
     pub store-whole : headerWhole (drop at s) ≡ true → whole (drop (next + 12) s) ≡ true
     unfolding headerWhole
-    store-whole h =
-        ap whole (next-store s at next w next-is)
-        ∙ and-right (leb 12 (length (behind (drop at s)))) (whole (drop 12 (behind (drop at s)))) (and-right (whole (drop at s)) _ h)
+    store-whole h = ap whole (next-store s at next w next-is) ∙ (simp tests at h) .1 .1
 
     pub store-is : argument (drop (next + 12) s) ≡ argument (drop 12 (behind (drop at s)))
     store-is = ap argument (next-store s at next w next-is)

@@ -8,9 +8,9 @@ use native.Mathlib.Numerals.{add-one}
 use native.Mathlib.Omega.{arith}
 use lib.ListN.{length, drop, getD, length-drop, drop-of-length-le}
 use lib.Seq.{drop-cons, drop-drop}
-use lib.Dec.{leb}
 use Rattle.format.specs.Bytes.{Bytes}
-use Rattle.format.proofs.Lists.{below, clash, and-right}
+use Rattle.format.proofs.Lists.{below, clash}
+use Rattle.format.proofs.Rulesets.{tests}
 use Rattle.script.specs.Script.{whole, argumentSize, behind, bothWhole, bothSize, headerWhole, headerSize, Form, one, two, header, unknown, formOf, complete, sizeOf, called, callsFrom, callsIn, endOf}
 use Rattle.script.proofs.Places.{size-within, some-end, none-end}
 use Rattle.script.proofs.Ends.{nothing-whole}
@@ -37,10 +37,10 @@ calls-first n t h = rw (h, passed-over (sizeOf (formOf n) t) t) refl
 size-fits : (f : Form) (t : Bytes) → complete f t ≡ true → sizeOf f t ≤ length t
 unfolding complete sizeOf bothWhole bothSize headerWhole headerSize
 size-fits (one c) t h = omega (arith, size-within t 0 h)
-size-fits (two c) t h = size-within t (argumentSize t) (and-right (whole t) (whole (behind t)) h)
+size-fits (two c) t h = size-within t (argumentSize t) ((simp tests at h) .1)
 size-fits header t h =
     let store = drop 12 (behind t) in
-    let w = and-right (leb 12 (length (behind t))) (whole store) (and-right (whole t) _ h) in
+    let w = (simp tests at h) .1 .1 in
     let e = drop-drop 12 (argumentSize t) t in
     omega (arith, size-within t (argumentSize t + 12) (rw (sym e) w), ap argumentSize e)
 size-fits unknown t h = omega arith

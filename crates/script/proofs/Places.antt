@@ -4,12 +4,11 @@ use mathlib.Core.Path.{_≡_, refl, sym, ap, _∙_}
 use mathlib.Core.Bool.{Bool, true, false, _&&_}
 use native.Mathlib.Nat.{add-zero}
 use native.Mathlib.Omega.{arith}
-use lib.Dec.{leb}
 use lib.ListN.{length, take, drop, getD, length-drop}
 use lib.Seq.{getD-drop, drop-drop}
-use borrow.Author.Tests.{leb-true, le-leb, lt-leb}
+use borrow.Author.Tests.{le-leb, lt-leb}
 use Rattle.format.specs.Bytes.{Bytes}
-use Rattle.format.proofs.Lists.{and-left, and-right, and-intro}
+use Rattle.format.proofs.Rulesets.{tests}
 use Rattle.script.specs.Script.{numberIn, whole, argument, argumentSize, behind, endOf}
 
 pub false-left : (a b : Bool) → a ≡ false → (a && b) ≡ false
@@ -49,10 +48,7 @@ module _ (s : Bytes) (at : ℕ) where
   -- a whole argument is within the script
   pub whole-within : whole (drop at s) ≡ true → at + (4 + numberIn (drop at s)) ≤ length s
   unfolding whole
-  whole-within h =
-      let a = leb-true 4 (length (drop at s)) (and-left (leb 4 (length (drop at s))) (leb (numberIn (drop at s)) (length (drop at s) - 4)) h) in
-      let b = leb-true (numberIn (drop at s)) (length (drop at s) - 4) (and-right (leb 4 (length (drop at s))) (leb (numberIn (drop at s)) (length (drop at s) - 4)) h) in
-      omega (arith, length-drop at s)
+  whole-within h = omega (arith, length-drop at s, simp tests at h)
 
   pub size-within : whole (drop at s) ≡ true → at + argumentSize (drop at s) ≤ length s
   unfolding argumentSize
@@ -92,5 +88,4 @@ module _ (s : Bytes) (at : ℕ) where
         let n : at + 4 + r ≡ at + (4 + numberIn (drop at s)) = omega arith in
         n
         ∙ end-some _ _
-        (and-intro _ _ (le-leb 4 (length (drop at s)) (omega (arith, length-drop at s)))
-        (le-leb (numberIn (drop at s)) (length (drop at s) - 4) (omega (arith, length-drop at s))))
+        (simp tests (omega (arith, length-drop at s)))

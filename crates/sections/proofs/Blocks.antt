@@ -2,7 +2,7 @@
 -- last byte at their distance is passed over. Assumes nothing.
 use Prim.Native.Nat.{ℕ, zero, suc, _+_, _-_, _≤_, _<_}
 use mathlib.Core.Path.{_≡_, refl, sym, _∙_}
-use mathlib.Core.Bool.{Bool, true, false, _&&_, _||_, false≢true}
+use mathlib.Core.Bool.{Bool, true, false, _&&_, _||_}
 use mathlib.Core.List.{[], _∷_}
 use mathlib.Core.Logic.{⊎-elim}
 use native.Mathlib.Omega.{arith}
@@ -11,9 +11,10 @@ use lib.Bits.{bitOr, bitXor, and-le-l, and-le-r, or-add-and, xor-add-and, xor-se
 use lib.Dec.{eqb}
 use lib.ListN.{length, take, drop, getD, length-drop}
 use lib.Seq.{drop-cons, drop-drop}
-use borrow.Author.Tests.{eqb-true, eqb-false, eq-eqb, ne-eqb}
+use borrow.Author.Tests.{eqb-false, eq-eqb, ne-eqb}
 use Rattle.format.specs.Bytes.{Bytes, begins}
-use Rattle.format.proofs.Lists.{bcase, clash, and-left, and-right, and-intro, or-false-left, or-false-right}
+use Rattle.format.proofs.Lists.{bcase, clash}
+use Rattle.format.proofs.Rulesets.{tests}
 use Rattle.sections.specs.Block.{near}
 use Rattle.sections.specs.Place.{place}
 use Rattle.sections.proofs.Begins.{begins-byte}
@@ -43,11 +44,12 @@ apart-test x a y z = ⊎-elim yes no (bcase (eqb x a && eqb y z))
   where
     yes : (eqb x a && eqb y z) ≡ true → (eqb x a && eqb y z) ≡ eqb (apart x a y z) 0
     yes h =
-        h ∙ sym (eq-eqb (apart x a y z) 0 (apart-same x a y z (eqb-true x a (and-left (eqb x a) (eqb y z) h)) (eqb-true y z (and-right (eqb x a) (eqb y z) h))))
+        let p = simp tests at h in
+        h ∙ sym (eq-eqb (apart x a y z) 0 (apart-same x a y z (p .0) (p .1)))
 
     no : (eqb x a && eqb y z) ≡ false → (eqb x a && eqb y z) ≡ eqb (apart x a y z) 0
     no h =
-        h ∙ sym (ne-eqb (apart x a y z) 0 (λ e. let k = apart-none x a y z e in false≢true (sym h ∙ and-intro (eqb x a) (eqb y z) (eq-eqb x a (k .0)) (eq-eqb y z (k .1)))))
+        h ∙ sym (ne-eqb (apart x a y z) 0 (λ e. clash (simp tests (apart-none x a y z e)) h))
 
 pub near-next : (a z : ℕ) (s t : Bytes) (k : ℕ) → k < length s → k < length t
     → near a z (drop k s) (drop k t) ≡ (eqb (apart (getD s k 0) a (getD t k 0) z) 0 || near a z (drop (k + 1) s) (drop (k + 1) t))
@@ -73,7 +75,7 @@ near-end a z (b ∷ s) t = near-end a z s t
 -- no pair at the first place, and none at the later ones
 near-here : (a z b c : ℕ) (s t : Bytes) → near a z (b ∷ s) (c ∷ t) ≡ false → ((eqb b a && eqb c z) ≡ false) × (near a z s t ≡ false)
 unfolding near
-near-here a z b c s t h = (or-false-left (eqb b a && eqb c z) (near a z s t) h, or-false-right (eqb b a && eqb c z) (near a z s t) h)
+near-here a z b c s t h = simp tests at h
 
 -- without the pattern's first and last byte a text does not begin with it
 apart-begins : (m : ℕ) (p t : Bytes) → length p ≡ m + 1 → (eqb (getD t 0 0) (getD p 0 0) && eqb (getD t m 0) (getD p m 0)) ≡ false → begins p t ≡ false
@@ -81,8 +83,7 @@ apart-begins m p t l h = ⊎-elim found (λ k. k) (bcase (begins p t))
   where
     found : begins p t ≡ true → begins p t ≡ false
     found k =
-        clash (and-intro (eqb (getD t 0 0) (getD p 0 0)) (eqb (getD t m 0) (getD p m 0)) (eq-eqb (getD t 0 0) (getD p 0 0) (begins-byte p t 0 k (omega arith)))
-        (eq-eqb (getD t m 0) (getD p m 0) (begins-byte p t m k (omega arith)))) h
+        clash (simp tests (begins-byte p t 0 k (omega arith), begins-byte p t m k (omega arith))) h
 
 -- a block of n places is passed over
 pub block-clear : (n m : ℕ) (p t : Bytes) → length p ≡ m + 1 → n + m ≤ length t

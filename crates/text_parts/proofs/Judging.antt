@@ -7,14 +7,15 @@ use lib.ListN.{length, take, drop}
 use Rattle.format.specs.Bytes.{Bytes, all, CRLFCRLF, occurs, pieces, split}
 use Rattle.format.specs.Characters.{isUtf8}
 use Rattle.format.specs.Limits.{maxText}
-use Rattle.format.specs.Refusals.{Refusal, textTooLong, tooFewSections, notUtf8, table, Out, accepted, refused, numbers, Check, refuseIf, atMost, _>>_}
+use Rattle.format.specs.Refusals.{Refusal, textTooLong, tooFewSections, notUtf8, table, Out, accepted, refused, numbers, Check, refuseIf, _>>_}
 use Rattle.format.specs.Validators.{utf8}
 use Rattle.format.specs.Reading.{Parts, sections, partsOf, textParts}
 use Rattle.format.specs.LookingUp.{inText}
 use Rattle.format.specs.declared.Numbers.{Numbers}
-use Rattle.format.proofs.Steps.{atMost-passed, refuseUnless-passed, then-passed, refused-number}
+use Rattle.format.proofs.Steps.{then-passed, refused-number}
 use Rattle.format.proofs.Answers.{carried, over-limit}
 use Rattle.format.proofs.Lists.{all-head, all-tail}
+use Rattle.format.proofs.Rulesets.{checks}
 use Rattle.format.proofs.Texts.ReadValid.{sections-utf8}
 use Rattle.sections.specs.declared.Places.{Places}
 use Rattle.sections.specs.declared.Places.the-variants.{Few, Four}
@@ -48,7 +49,7 @@ module _ (t : Bytes) where
     -- 1 does not apply
     within : textParts t ≡ _>>_ (utf8 t) (partsOf (sections t))
     unfolding textParts
-    within = then-passed (atMost maxText textTooLong (length t)) _ (atMost-passed maxText textTooLong (length t) short)
+    within = then-passed _ _ (simp checks short)
 
     -- 24
     pub not-text : isUtf8 t ≡ false → Refuses (textParts t) (record { number = 24; carried = 0 })
@@ -61,7 +62,7 @@ module _ (t : Bytes) where
       unfolding utf8
       split-up =
           within
-          ∙ then-passed (utf8 t) _ (refuseUnless-passed (isUtf8 t) notUtf8 u)
+          ∙ then-passed (utf8 t) _ (simp checks u)
           ∙ ap partsOf (sections-are t ∙ ap (λ (b : Bool). pieces (split (separatorFor b) t)) (sym e))
 
       -- 2

@@ -10,10 +10,10 @@ use native.Mathlib.Omega.{arith}
 use lib.Dec.{leb}
 use lib.ListN.{length, take, drop, length-drop}
 use lib.Seq.{take-append-le, drop-append-le}
-use borrow.Author.Tests.{leb-true}
 use Rattle.format.specs.Bytes.{Bytes, all}
 use Rattle.format.specs.Characters.{Range, within, table-3-7, trailOf, matched, matchedSome, trailing, chars, wellFormed}
-use Rattle.format.proofs.Lists.{and-left, and-right, all-head, all-tail}
+use Rattle.format.proofs.Lists.{all-head, all-tail}
+use Rattle.format.proofs.Rulesets.{tests}
 use Rattle.format.proofs.Characters.Table.{within-below, within-above, picks}
 use Rattle.format.proofs.Characters.Chars.{trailing-le, chars-nil, chars-cons, chars-whole}
 use Rattle.format.proofs.Characters.Shapes.{Shape, one, two, three, four, shape}
@@ -34,8 +34,8 @@ leads-outside : (b : ℕ) (q : Range) → Leads b → trailRange q ≡ true → 
 unfolding trailRange
 leads-outside b q l h =
     ⊎-elim
-    (λ x. within-below b q (omega (arith, leb-true 0x80 (q .first) (and-left (leb 0x80 (q .first)) (leb (q .last) 0xBF) h))))
-    (λ x. within-above b q (omega (arith, leb-true (q .last) 0xBF (and-right (leb 0x80 (q .first)) (leb (q .last) 0xBF) h))))
+    (λ x. within-below b q (omega (arith, simp tests at h)))
+    (λ x. within-above b q (omega (arith, simp tests at h)))
     l
 
 matched-lead : (rs : List Range) (s : Bytes) (b : ℕ) (t : Bytes) → all trailRange rs ≡ true → Leads b → matched rs (s ++ (b ∷ t)) ≡ matched rs s

@@ -13,7 +13,8 @@ use lib.Seq.{drop-cons, take-length}
 use borrow.Author.Tests.{leb-true, lt-leb, ltb-true, ltb-false, lt-ltb, le-ltb, eqb-true, eqb-false, eq-eqb, ne-eqb}
 use Rattle.format.specs.Bytes.{Bytes, all, any}
 use Rattle.format.specs.Characters.{_to_, within, wellFormed, chars, codePoint, whiteSpace, isWhite, isControl, isControlCode}
-use Rattle.format.proofs.Lists.{bcase, and-left, and-right, all-head, all-tail}
+use Rattle.format.proofs.Lists.{bcase, all-head, all-tail}
+use Rattle.format.proofs.Rulesets.{tests}
 use Rattle.format.proofs.Characters.Table.{within-intro, within-below}
 use Rattle.format.proofs.Characters.Chars.{chars-whole, ascii-whole, whole-single}
 use Rattle.format.proofs.Characters.Shapes.{Shape, one, two, three, four, shape}
@@ -137,8 +138,8 @@ unfolding everyBelow
 at-below p zero b h l = absurd (omega arith)
 at-below p (suc n) b h l =
     ⊎-elim
-    (λ e. rw (eqb-true b n e) (and-left (p n) (everyBelow p n) h))
-    (λ e. at-below p n b (and-right (p n) (everyBelow p n) h) (omega (arith, eqb-false b n e)))
+    (λ e. rw (eqb-true b n e) ((simp tests at h) .0))
+    (λ e. at-below p n b ((simp tests at h) .1) (omega (arith, eqb-false b n e)))
     (bcase (eqb b n))
 
 abbrev byteWhite : ℕ → Bool
@@ -221,7 +222,7 @@ white-most n h = any-most n 0x3000 whiteSpace refl h
 -- a white-space character has one byte, two or three
 pub white-short : (g : Bytes) → isWhite g ≡ true → length g ≤ 3
 unfolding isWhite
-white-short g h = go (shape g (and-left (wellFormed g) (any (eqb (codePoint g)) whiteSpace) h)) (white-most (codePoint g) (and-right (wellFormed g) (any (eqb (codePoint g)) whiteSpace) h))
+white-short g h = go (shape g ((simp tests at h) .0)) (white-most (codePoint g) ((simp tests at h) .1))
   where
     go : {g : Bytes} → Shape g → codePoint g ≤ 0x3000 → length g ≤ 3
     go (one a x) l = omega arith
@@ -231,4 +232,4 @@ white-short g h = go (shape g (and-left (wellFormed g) (any (eqb (codePoint g)) 
 
 pub white-whole : (g : Bytes) → isWhite g ≡ true → wellFormed g ≡ true
 unfolding isWhite
-white-whole g h = and-left (wellFormed g) (any (eqb (codePoint g)) whiteSpace) h
+white-whole g h = (simp tests at h) .0

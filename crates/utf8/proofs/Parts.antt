@@ -10,10 +10,11 @@ use native.Mathlib.Numerals.{add-one}
 use lib.Dec.{ltb}
 use lib.ListN.{length, take, drop, getD, length-take, length-drop}
 use lib.Seq.{drop-cons, drop-drop}
-use borrow.Author.Tests.{lt-ltb, le-ltb, ltb-true}
+use borrow.Author.Tests.{lt-ltb, le-ltb}
 use Rattle.format.specs.Bytes.{Bytes, all}
 use Rattle.format.specs.Characters.{wellFormed, chars}
-use Rattle.format.proofs.Lists.{below, and-left, and-right}
+use Rattle.format.proofs.Lists.{below}
+use Rattle.format.proofs.Rulesets.{tests}
 use Rattle.format.proofs.Characters.Chars.{ascii-whole, chars-ascii}
 use Rattle.characters.specs.Lengths.{subpartLen, charLen, utf8End, Passed}
 use Rattle.characters.proofs.Ends.{subpart-chars, subpart-inside, char-whole, char-ill, stays, passed-on, char-step, end-ill}
@@ -73,11 +74,8 @@ unfolding all
 chars-ascii-part zero s at stop e f a = chars-stop s at stop (omega arith) ∙ omega arith
 chars-ascii-part (suc k) s at stop e f a =
     let h : at < length s = omega arith in
-    let b = getD s at 0 in
-    let tail = all (λ b. ltb b 0x80) (take k (drop (suc at) s)) in
-    let both = rw (drop-cons s at 0 h) at a in
-    chars-one s at stop (omega arith) h (ltb-true b 0x80 (and-left (ltb b 0x80) tail both))
-    ∙ chars-ascii-part k s (suc at) stop (omega arith) f (and-right (ltb b 0x80) tail both)
+    let p = simp tests at (rw (drop-cons s at 0 h) at a) in
+    chars-one s at stop (omega arith) h (p .0) ∙ chars-ascii-part k s (suc at) stop (omega arith) f (p .1)
 
 -- What lies before r is UTF-8, and before stop r is where UTF-8 ends.
 pub record Gone (s : Bytes) (at stop r : ℕ) : Type 0 where

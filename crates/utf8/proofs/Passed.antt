@@ -8,9 +8,10 @@ use native.Mathlib.Omega.{arith}
 use lib.Dec.{ltb, leb}
 use lib.ListN.{length, take, drop, getD}
 use lib.Seq.{getD-take, getD-drop}
-use borrow.Author.Tests.{ltb-true, leb-true, le-leb, lt-leb}
+use borrow.Author.Tests.{leb-true, le-leb, lt-leb}
 use Rattle.format.specs.Bytes.{Bytes, all}
-use Rattle.format.proofs.Lists.{bcase, below, and-left, and-right}
+use Rattle.format.proofs.Lists.{bcase, below}
+use Rattle.format.proofs.Rulesets.{tests}
 use Rattle.format.proofs.Characters.Chars.{utf8-ascii-text}
 use Rattle.characters.specs.Lengths.{Passed}
 use Rattle.characters.proofs.Ends.{passed, stays, passed-on}
@@ -30,14 +31,8 @@ settled-at s k x y z =
 settled-from : (s : Bytes) (k : ℕ) → isSettled s k ≡ true → Settled s k
 unfolding isSettled
 settled-from s k e =
-    let x = ltb (getD s k 0) 0xF0 in
-    let y = ltb (getD s (k + 1) 0) 0xE0 in
-    let z = ltb (getD s (k + 2) 0) 0xC2 in
-    let r = and-right x (y && z) e in
-    settled-at s k
-    (ltb-true (getD s k 0) 0xF0 (and-left x (y && z) e))
-    (ltb-true (getD s (k + 1) 0) 0xE0 (and-left y z r))
-    (ltb-true (getD s (k + 2) 0) 0xC2 (and-right y z r))
+    let p = simp tests at e in
+    settled-at s k (p .0) (p .1 .0) (p .1 .1)
 
 -- the bytes of a part are those of the text
 sound-part : (s : Bytes) (from n i : ℕ) → i + 3 < n → SoundAt (take n (drop from s)) i → SoundAt s (from + i)
@@ -125,10 +120,10 @@ block-end-passed s at f =
     (⊎-elim
     (λ u.
     rw u
-    (let l = leb-true 3 at (and-left (leb 3 at) (isSettled s (at - 3)) u) in
+    (let p = simp tests at u in
     let e : at - 3 + 3 ≡ at = omega arith in
     subst (λ (i : ℕ). Passed s i (soundEnd s (at - 3))) e
-    (sound-passed s (at - 3) (omega arith) (settled-from s (at - 3) (and-right (leb 3 at) (isSettled s (at - 3)) u)))))
+    (sound-passed s (at - 3) (omega arith) (settled-from s (at - 3) (p .1)))))
     (λ u. rw u (stays s at (omega arith)))
     (bcase (leb 3 at && isSettled s (at - 3)))))
     (bcase (all (λ b. ltb b 0x80) (take 64 (drop at s))))

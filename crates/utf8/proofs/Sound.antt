@@ -8,15 +8,16 @@ use native.Mathlib.Numerals.{add-one}
 use lib.Dec.{leb, ltb, eqb}
 use lib.ListN.{getD}
 use borrow.Author.Count.{below-none, below-more}
-use borrow.Author.Tests.{lt-ltb, le-ltb, le-leb, lt-leb, leb-true, ltb-true, eq-eqb, ne-eqb}
+use borrow.Author.Tests.{lt-ltb, le-ltb, le-leb, lt-leb, eq-eqb, ne-eqb}
 use Rattle.format.specs.Bytes.{Bytes}
-use Rattle.format.proofs.Lists.{bcase, below, clash, and-left, and-right, and-intro, or-intro-right}
+use Rattle.format.proofs.Lists.{bcase, below, clash, or-intro-right}
+use Rattle.format.proofs.Rulesets.{tests}
 use Rattle.utf8.specs.Sound.{Trailing, Sound, SoundAt, isTrailing, isLeading, isOwed, inTurn, leastBehind, greatestBehind, isSound, isSoundAt, allSound, isPair, allPairs, bit}
 
 -- a trailing byte, and bytes that are none
 pub trailing-is : (b : ℕ) → 0x80 ≤ b → b ≤ 0xBF → isTrailing b ≡ true
 unfolding isTrailing
-trailing-is b h i = and-intro (leb 0x80 b) (leb b 0xBF) (le-leb 0x80 b h) (le-leb b 0xBF i)
+trailing-is b h i = simp tests (h, i)
 
 pub trailing-below : (b : ℕ) → b < 0x80 → isTrailing b ≡ false
 unfolding isTrailing
@@ -28,7 +29,7 @@ trailing-above b h = rw (lt-leb b 0xBF h) (and-false (leb 0x80 b))
 
 trailing-from : (b : ℕ) → isTrailing b ≡ true → Trailing b
 unfolding isTrailing
-trailing-from b e = (leb-true 0x80 b (and-left (leb 0x80 b) (leb b 0xBF) e), leb-true b 0xBF (and-right (leb 0x80 b) (leb b 0xBF) e))
+trailing-from b e = simp tests at e
 
 leading-from : (b : ℕ) → isLeading b ≡ true → (b < 0x80) ⊎ (0xC2 ≤ b)
 unfolding isLeading
@@ -173,10 +174,10 @@ module _ (p3 p2 p1 b : ℕ) where
   sound-from : isSound p3 p2 p1 b ≡ true → Sound p3 p2 p1 b
   unfolding isSound
   sound-from e =
-      let turn = and-left (inTurn p3 p2 p1 b) (leb (leastBehind p1) b && leb b (greatestBehind p1)) e in
-      let ends = and-right (inTurn p3 p2 p1 b) (leb (leastBehind p1) b && leb b (greatestBehind p1)) e in
-      let low = leb-true (leastBehind p1) b (and-left (leb (leastBehind p1) b) (leb b (greatestBehind p1)) ends) in
-      let high = leb-true b (greatestBehind p1) (and-right (leb (leastBehind p1) b) (leb b (greatestBehind p1)) ends) in
+      let p = simp tests at e in
+      let turn = p .0 in
+      let low = p .1 .0 in
+      let high = p .1 .1 in
       let trails : isOwed p3 p2 p1 ≡ true → Trailing b = λ o. trailing-from b (sym (turn-owed o) ∙ turn) in
       record {
         first = λ p. trails (owed-first p3 p2 p1 p);
@@ -208,7 +209,7 @@ unfolding allSound
 all-from s zero e = below-none (SoundAt s)
 all-from s (suc n) e =
     λ i h.
-    below-more (SoundAt s) n (all-from s n (and-left (allSound n s) (isSoundAt s n) e)) (at-from s n (and-right (allSound n s) (isSoundAt s n) e)) i
+    below-more (SoundAt s) n (all-from s n ((simp tests at e) .0)) (at-from s n ((simp tests at e) .1)) i
     (omega arith)
 
 -- the worst so far, with one more: the larger of the two
@@ -247,7 +248,7 @@ module _ (p1 b : ℕ) where
 
   pair-below : isPair p1 b ≡ true → b < 0xE0
   unfolding isPair
-  pair-below e = ltb-true b 0xE0 (and-left (ltb b 0xE0) (inTurn 0 0 p1 b) e)
+  pair-below e = (simp tests at e) .0
 
   -- such a byte is sound behind bytes that lead no character of more than two
   module _ (p3 p2 : ℕ) (h3 : p3 < 0xE0) (h2 : p2 < 0xE0) (h1 : p1 < 0xE0) (e : isPair p1 b ≡ true) where
@@ -257,7 +258,7 @@ module _ (p1 b : ℕ) where
 
     pair-in-turn : inTurn p3 p2 p1 b ≡ true
     unfolding inTurn isPair
-    pair-in-turn = rw pair-owes (and-right (ltb b 0xE0) (inTurn 0 0 p1 b) e)
+    pair-in-turn = rw pair-owes ((simp tests at e) .1)
 
     pair-sound : isSound p3 p2 p1 b ≡ true
     unfolding isSound
@@ -271,12 +272,13 @@ pub pairs-sound : (s : Bytes) (n : ℕ) → getD s 0 0 < 0xE0 → getD s 1 0 < 0
 unfolding allPairs allSound isSoundAt
 pairs-sound s zero h0 h1 h2 e = (refl, h0, h1, h2)
 pairs-sound s (suc n) h0 h1 h2 e =
-    let before = pairs-sound s n h0 h1 h2 (and-left (allPairs n s) (isPair (getD s (n + 2) 0) (getD s (n + 3) 0)) e) in
-    let pair = and-right (allPairs n s) (isPair (getD s (n + 2) 0) (getD s (n + 3) 0)) e in
+    let p = simp tests at e in
+    let before = pairs-sound s n h0 h1 h2 (p .0) in
+    let pair = p .1 in
     let one : n + 1 ≡ suc n = omega arith in
     let two : n + 2 ≡ suc n + 1 = omega arith in
     let three : n + 3 ≡ suc n + 2 = omega arith in (
-      and-intro (allSound n s) (isSound (getD s n 0) (getD s (n + 1) 0) (getD s (n + 2) 0) (getD s (n + 3) 0)) (before .0) (pair-sound (getD s (n + 2) 0) (getD s (n + 3) 0) (getD s n 0) (getD s (n + 1) 0) (before .1) (before .2) (before .3) pair),
+      simp tests (before .0, pair-sound (getD s (n + 2) 0) (getD s (n + 3) 0) (getD s n 0) (getD s (n + 1) 0) (before .1) (before .2) (before .3) pair),
       subst (λ (k : ℕ). getD s k 0 < 0xE0) one (before .2),
       subst (λ (k : ℕ). getD s k 0 < 0xE0) two (before .3),
       subst (λ (k : ℕ). getD s k 0 < 0xE0) three (pair-below (getD s (n + 2) 0) (getD s (n + 3) 0) pair),
