@@ -60,7 +60,7 @@ bench: cargo library calls
 
 # What rt prints besides its progress is shown where it fails.
 library: rt
-	@out=$$(rt staticlib leaves) || { printf '%s\n' "$$out"; exit 1; }
+	@out=$$(rt staticlib leaf_exports) || { printf '%s\n' "$$out"; exit 1; }
 
 calls: rt
 	@out=$$(rt staticlib cpim) || { printf '%s\n' "$$out"; exit 1; }

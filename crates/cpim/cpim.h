@@ -172,7 +172,7 @@ cpim_answer_t cpim_with_ns(cpim_message_t m, uint8_t *head, size_t head_len, con
 cpim_answer_t cpim_with_content_header(cpim_message_t m, uint8_t *head, size_t head_len, const uint8_t *name,
                                        size_t name_len, const uint8_t *value, size_t value_len);
 
-/* Runs a script of changing calls (crates/script/specs/Script.antt) up to the first place where no whole call stands; the record is the last call's. */
+/* Runs a script of changing calls (crates/calls_script/specs/Script.antt) up to the first place where no whole call stands; the record is the last call's. */
 cpim_message_t cpim_run(const uint8_t *script, size_t script_len, cpim_message_t m, uint8_t *head, size_t head_len,
                         uint8_t *body, size_t body_len);
 

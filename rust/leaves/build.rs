@@ -2,5 +2,5 @@
 mod link;
 
 fn main() {
-    link::link("leaves");
+    link::link("leaf_exports");
 }

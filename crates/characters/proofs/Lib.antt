@@ -1,2 +1,2 @@
 pub mod Coding
-pub mod Ends
+pub mod CharEnds

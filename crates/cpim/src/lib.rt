@@ -9,8 +9,8 @@ use format::Answer;
 use format::CpimHeader;
 use format::CpimMessage;
 use format::HeaderAnswer;
-use text_parts::LengthAnswer;
-use whole::Loss;
+use read_split::LengthAnswer;
+use roundtrip::Loss;
 ghost use mathlib.Core.Path.{_≡_};
 ghost use mathlib.Core.Option.{Option};
 ghost use lib.ListN.{length};
@@ -23,14 +23,14 @@ ghost use Rattle.format.specs.Layout.{emptyMessage, Holds, Held};
 ghost use Rattle.format.specs.Lending.{headLent, bothLent, lengths, numbersOf, headerNumbers, Changed, Made, Parsed, Wrote, MadeHeader, ParamSet, HeaderAdded};
 ghost use Rattle.format.specs.Runs.{Run};
 ghost use Rattle.format.specs.Demand3.{after};
-ghost use Rattle.script.specs.Script.{state, callsIn};
-ghost use Rattle.whole.specs.Loss.{lossHeld, wholeHeld, ReadsBack};
+ghost use Rattle.calls_script.specs.Script.{state, callsIn};
+ghost use Rattle.roundtrip.specs.Loss.{lossHeld, wholeHeld, ReadsBack};
 
 #[no_mangle]
 pub extern "C" fn cpim_parse(text: &[u8], head: &mut [u8], body: &mut [u8]) -> Answer
     ensures { λ r. ⌜ Parsed (now (text .entry)) (bothLent emptyMessage (now (head .entry)) (now (body .entry))) (bothLent (r .message) (now (head .exit)) (now (body .exit))) (numbersOf r) ⌝ }
 {
-    reading::parse_cpim(text, head, body)
+    read::parse_cpim(text, head, body)
 }
 
 #[no_mangle]
@@ -39,7 +39,7 @@ pub extern "C" fn cpim_read_body(text: &[u8], buffer: &mut [u8]) -> LengthAnswer
     ensures length { λ r. ⌜ r .length ≡ bodyLengthOf (findBody (now (text .entry)) (length (now (buffer .entry)))) ⌝ }
     ensures written { λ r. ⌜ now (buffer .exit) ≡ bufferAfter (now (text .entry)) (now (buffer .entry)) ⌝ }
 {
-    text_parts::read_body(text, buffer)
+    read_split::read_body(text, buffer)
 }
 
 #[no_mangle]
@@ -112,7 +112,7 @@ pub extern "C" fn cpim_add_header_obj(
 ) -> Answer
     ensures { λ r. ⌜ HeaderAdded (now (name .entry)) (record { header = h; store = now (store .entry) }) (headLent m (now (head .entry))) (headLent (r .message) (now (head .exit))) (numbersOf r) ⌝ }
 {
-    adding::add_header_obj(m, head, name, h, store)
+    message_add_obj::add_header_obj(m, head, name, h, store)
 }
 
 #[no_mangle]
@@ -188,7 +188,7 @@ pub extern "C" fn cpim_with_content_header(
     message::builders::with_content_header(m, head, name, value)
 }
 
-// A script of changing calls (crates/script/specs/Script.antt), run one behind another; the record is the last call's.
+// A script of changing calls (crates/calls_script/specs/Script.antt), run one behind another; the record is the last call's.
 #[no_mangle]
 pub extern "C" fn cpim_run(
     script: &[u8],
@@ -199,7 +199,7 @@ pub extern "C" fn cpim_run(
     ensures run { λ r. ⌜ Run (state m (now (head .entry)) (now (body .entry))) (callsIn (now (script .entry))) (state r (now (head .exit)) (now (body .exit))) ⌝ }
     ensures held { λ r. ⌜ ((k : Message) → Holds (bothLent m (now (head .entry)) (now (body .entry))) k → Holds (bothLent r (now (head .exit)) (now (body .exit))) (after (lengths (bothLent m (now (head .entry)) (now (body .entry)))) k (callsIn (now (script .entry))))) ⌝ }
 {
-    running::run(script, m, head, body)
+    calls_run::run(script, m, head, body)
 }
 
 #[no_mangle]
@@ -212,7 +212,7 @@ pub extern "C" fn cpim_to_string(
     ensures wrote { λ r. ⌜ Wrote (bothLent m (now (head .entry)) (now (body .entry))) (now (out .entry)) (now (out .exit)) (record { number = r .number; carried = r .carried }) ⌝ }
     ensures length { λ r. ⌜ ((o : Option Message) → Held (bothLent m (now (head .entry)) (now (body .entry))) o → r .length ≡ bodyLengthOf (toText o (length (now (out .entry))))) ⌝ }
 {
-    writing::to_string(m, head, body, out)
+    write::to_string(m, head, body, out)
 }
 
 // Whether reading its text, with room for it, gives the message held.
@@ -221,7 +221,7 @@ pub extern "C" fn cpim_comes_back(m: CpimMessage, head: &[u8], body: &[u8]) -> b
     ensures condition { λ r. ⌜ ((o : Option Message) → Held (bothLent m (now (head .entry)) (now (body .entry))) o → r ≡ wholeHeld o) ⌝ }
     ensures theorem { λ r. ⌜ ReadsBack (bothLent m (now (head .entry)) (now (body .entry))) r ⌝ }
 {
-    whole::comes_back(m, head, body)
+    roundtrip::comes_back(m, head, body)
 }
 
 // Where it does not: the clause of demand 3 that fails first, and for which entry.
@@ -229,7 +229,7 @@ pub extern "C" fn cpim_comes_back(m: CpimMessage, head: &[u8], body: &[u8]) -> b
 pub extern "C" fn cpim_loss(m: CpimMessage, head: &[u8], body: &[u8]) -> Loss
     ensures { λ r. ⌜ ((o : Option Message) → Held (bothLent m (now (head .entry)) (now (body .entry))) o → r ≡ lossHeld o) ⌝ }
 {
-    whole::loss_of(m, head, body)
+    roundtrip::loss_of(m, head, body)
 }
 
 #[no_mangle]

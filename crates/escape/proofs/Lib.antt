@@ -1,7 +1,7 @@
-mod Digits
+mod HexDigits
 pub mod BareBytes
 pub mod ByKind
 pub mod FormAt
-pub mod Parts
-pub mod Turns
+pub mod Overlapping
+pub mod EscapeTurns
 pub mod Units

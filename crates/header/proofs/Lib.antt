@@ -1,5 +1,5 @@
-pub mod Bounds
-pub mod Putting
-pub mod Steps
-pub mod Sizes
-pub mod Ways
+pub mod HeaderBounds
+pub mod ParamSplice
+pub mod HeaderChecks
+pub mod ParamSizes
+pub mod HeaderExits

@@ -1,16 +1,16 @@
 // A header alone in its lent store, under the source's names: made with a value, then given parameters. Refused, a call writes
 // nothing; `new` then hands back the empty record, `with_param` the record that it got.
 
-use entries::groups::Group;
-use entries::groups::find_group;
 use format::CpimHeader;
 use format::HeaderAnswer;
 use format::Numbers;
-use held::header_holds;
-use judging::kinds::MAX_PARAMS_PER_HEADER;
 use octets::copy_at;
-use store::Notation;
-use store::replace;
+use store_check::header_holds;
+use store_entries::groups::Group;
+use store_entries::groups::find_group;
+use store_entry_check::kinds::MAX_PARAMS_PER_HEADER;
+use store_splice::Notation;
+use store_splice::replace;
 use utf8::is_utf8;
 use validate::validate_cpim_header_value;
 use validate::validate_param_name;
@@ -24,13 +24,13 @@ ghost use Rattle.format.specs.Message.{Entry, LoneHeader, entry, entryName, nee
 ghost use Rattle.format.specs.Calls.{ifRoomAlone};
 ghost use Rattle.format.specs.Layout.{HoldsAlone, emptyHeader};
 ghost use Rattle.format.specs.Lending.{headerNumbers, MadeHeader, ParamSet};
-ghost use Rattle.entries.specs.Groups.{Grouped};
-ghost use Rattle.store.specs.Spliced.{Parted};
-ghost use Rattle.held.specs.Holding.{headerHolds};
+ghost use Rattle.store_entries.specs.Groups.{Grouped};
+ghost use Rattle.store_splice.specs.Spliced.{Parted};
+ghost use Rattle.store_check.specs.Holding.{headerHolds};
 ghost use Rattle.header.specs.Alone.{aloneIn, withParams, setIn, DoesAlone};
 
 // A refusal, with the record as it was handed in.
-fn refused(n: Numbers, h: CpimHeader) -> HeaderAnswer
+fn header_refused(n: Numbers, h: CpimHeader) -> HeaderAnswer
     ensures { λ r. ⌜ r ≡ record { number = n .number; carried = n .carried; header = h } ⌝ }
 {
     HeaderAnswer {
@@ -41,7 +41,7 @@ fn refused(n: Numbers, h: CpimHeader) -> HeaderAnswer
 }
 
 // A refusal of a call that hands back no header.
-fn nothing(number: u64, carried: u64) -> HeaderAnswer
+fn no_header(number: u64, carried: u64) -> HeaderAnswer
     ensures { λ r. ⌜ r ≡ record { number = number; carried = carried; header = emptyHeader } ⌝ }
 {
     HeaderAnswer {
@@ -67,7 +67,7 @@ fn params_of(h: CpimHeader, store: &[u8], name: &[u8]) -> Group
 
 // A parameter in the place of the old bytes at a place among the parameters, which are many parameters; 25 where there is no
 // room.
-fn put_param(
+fn splice_param(
     h: CpimHeader,
     store: &mut [u8],
     at: usize,
@@ -95,7 +95,7 @@ fn put_param(
         b"",
     );
     if done.number != 0 {
-        return refused(done, h);
+        return header_refused(done, h);
     }
     HeaderAnswer {
         number: done.number,
@@ -119,10 +119,10 @@ pub fn set_param_held(h: CpimHeader, store: &mut [u8], name: &[u8], value: &[u8]
     let many = g.many;
     let count = h.params + 1;
     if n.number != 0 {
-        return refused(n, h);
+        return header_refused(n, h);
     }
     if v.number != 0 {
-        return refused(v, h);
+        return header_refused(v, h);
     }
     if MAX_PARAMS_PER_HEADER < count {
         return HeaderAnswer {
@@ -131,7 +131,7 @@ pub fn set_param_held(h: CpimHeader, store: &mut [u8], name: &[u8], value: &[u8]
             header: h,
         };
     }
-    put_param(h, store, g.at, g.size, many, name, value)
+    splice_param(h, store, g.at, g.size, many, name, value)
 }
 
 // A header of a value, with no parameter: 24, value, 25.
@@ -139,15 +139,15 @@ pub fn new(value: &[u8], store: &mut [u8]) -> HeaderAnswer
     ensures { λ r. ⌜ MadeHeader (now (value .entry)) (now (store .entry)) (record { header = r .header; store = now (store .exit) }) (headerNumbers r) ⌝ }
 {
     if !is_utf8(value) {
-        return nothing(24, 0);
+        return no_header(24, 0);
     }
     let length = validate_cpim_header_value(value);
     if length.number != 0 {
-        return nothing(length.number, length.carried);
+        return no_header(length.number, length.carried);
     }
     let size = 16 + value.len();
     if store.len() < size {
-        return nothing(25, size as u64);
+        return no_header(25, size as u64);
     }
     let zeros = [0u8; 16];
     copy_at(store, 0, &zeros);

@@ -11,10 +11,10 @@ use Rattle.format.specs.Layout.{layoutEntry, Held}
 use Rattle.format.specs.Lending.{headLent}
 use Rattle.format.specs.LookingUp.{nth, getContent}
 use Rattle.format.specs.declared.CpimMessage.{CpimMessage}
-use Rattle.held.specs.Holding.{messageHolds}
-use Rattle.held.proofs.Parts.{part-of, held-parts}
-use Rattle.held.proofs.Cases.{not-held, head-held}
-use Rattle.nth.specs.Listed.{Listed}
+use Rattle.store_check.specs.Holding.{messageHolds}
+use Rattle.store_check.proofs.HeldParts.{part-of, held-parts}
+use Rattle.store_check.proofs.HeldCases.{not-held, head-held}
+use Rattle.lookup_nth.specs.Listed.{Listed}
 use Rattle.lookup.specs.OfHeld.{contentsHeld}
 
 module _ (m : CpimMessage) (head : Bytes) where

@@ -12,11 +12,11 @@ use Rattle.format.specs.Lending.{headLent}
 use Rattle.format.specs.LookingUp.{countHeaders, countParams, countContents}
 use Rattle.format.specs.declared.CpimMessage.{CpimMessage}
 use Rattle.format.proofs.Messages.Parts.{message-parts}
-use Rattle.entries.specs.Stored.{shapedAll, entriesIn}
-use Rattle.held.specs.Holding.{messageHolds}
-use Rattle.held.proofs.Parts.{part-of, held-parts}
-use Rattle.held.proofs.Cases.{headRead, in-head, head-parts, not-held, head-held}
-use Rattle.nth.proofs.Lists.{headers-params}
+use Rattle.store_entries.specs.Stored.{shapedAll, entriesIn}
+use Rattle.store_check.specs.Holding.{messageHolds}
+use Rattle.store_check.proofs.HeldParts.{part-of, held-parts}
+use Rattle.store_check.proofs.HeldCases.{headRead, in-head, head-parts, not-held, head-held}
+use Rattle.lookup_nth.proofs.NthElement.{headers-params}
 
 -- Where nothing is held.
 module _ (m : CpimMessage) (head : Bytes) (h : messageHolds m head ≡ false) where

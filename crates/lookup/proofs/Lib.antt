@@ -1,5 +1,5 @@
 pub mod ContentsHeld
 pub mod Counting
 pub mod LoneHeader
-pub mod Looking
+pub mod NthNamed
 pub mod TypeAndBody

@@ -11,13 +11,13 @@ use Rattle.format.specs.Message.{LoneHeader}
 use Rattle.format.specs.Layout.{layoutEntry, HeldAlone}
 use Rattle.format.specs.LookingUp.{nth, aloneValue, aloneParam}
 use Rattle.format.specs.declared.CpimHeader.{CpimHeader}
-use Rattle.held.specs.Holding.{headerHolds}
-use Rattle.held.specs.Decoding.{headerIn}
-use Rattle.held.proofs.Parts.{AloneParts, part-of, alone-parts}
-use Rattle.held.proofs.Alone.{held-alone-holds}
-use Rattle.held.proofs.Cases.{alone-held, alone-not-held}
-use Rattle.parts.specs.Found.{Found}
-use Rattle.nth.specs.Listed.{Listed}
+use Rattle.store_check.specs.Holding.{headerHolds}
+use Rattle.store_check.specs.Decoding.{headerIn}
+use Rattle.store_check.proofs.HeldParts.{AloneParts, part-of, alone-parts}
+use Rattle.store_check.proofs.HeaderHeld.{held-alone-holds}
+use Rattle.store_check.proofs.HeldCases.{alone-held, alone-not-held}
+use Rattle.lookup_part.specs.Found.{Found}
+use Rattle.lookup_nth.specs.Listed.{Listed}
 use Rattle.lookup.specs.OfHeld.{paramsHeld}
 
 -- Where nothing is held.

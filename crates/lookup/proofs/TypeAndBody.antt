@@ -15,10 +15,10 @@ use Rattle.format.specs.Lending.{headLent, bothLent}
 use Rattle.format.specs.LookingUp.{getType, getBody, bodyAsStr}
 use Rattle.format.specs.declared.CpimMessage.{CpimMessage}
 use Rattle.format.proofs.Lists.{clash}
-use Rattle.held.specs.Holding.{messageHolds}
-use Rattle.held.proofs.Parts.{held-parts}
-use Rattle.held.proofs.Cases.{head-parts, not-held, head-held, body-held, body-short}
-use Rattle.parts.specs.Found.{Found}
+use Rattle.store_check.specs.Holding.{messageHolds}
+use Rattle.store_check.proofs.HeldParts.{held-parts}
+use Rattle.store_check.proofs.HeldCases.{head-parts, not-held, head-held, body-held, body-short}
+use Rattle.lookup_part.specs.Found.{Found}
 
 -- a part from the start
 from-start : (n : ℕ) (s : Bytes) → take (n - 0) (drop 0 s) ≡ take n s

@@ -2,9 +2,9 @@
 // bytes may be lent.
 
 use format::CpimMessage;
-use held::message_holds;
-use parts::absent;
-use parts::part;
+use lookup_part::absent;
+use lookup_part::part;
+use store_check::message_holds;
 use utf8::is_utf8;
 ghost use mathlib.Core.Path.{_≡_};
 ghost use mathlib.Core.Option.{Option};
@@ -12,7 +12,7 @@ ghost use Rattle.format.specs.Message.{Message};
 ghost use Rattle.format.specs.Layout.{Held};
 ghost use Rattle.format.specs.Lending.{headLent, bothLent};
 ghost use Rattle.format.specs.LookingUp.{getType, getBody, bodyAsStr};
-ghost use Rattle.parts.specs.Found.{Found};
+ghost use Rattle.lookup_part.specs.Found.{Found};
 
 pub fn content_type<'a>(m: CpimMessage, head: &'a [u8], found: &mut bool) -> &'a [u8]
     ensures { λ r. ⌜ ((o : Option Message) → Held (headLent m (now (head .entry))) o → Found (getType o) (now (found .exit)) (now r)) ⌝ }

@@ -2,17 +2,17 @@
 // bytes may be lent, and any n asked for.
 
 use format::CpimHeader;
-use held::header_holds;
-use nth::nth_name;
-use nth::nth_value;
-use parts::absent;
-use parts::part;
+use lookup_nth::nth_name;
+use lookup_nth::nth_value;
+use lookup_part::absent;
+use lookup_part::part;
+use store_check::header_holds;
 ghost use mathlib.Core.Option.{Option};
 ghost use Rattle.format.specs.Message.{LoneHeader};
 ghost use Rattle.format.specs.Layout.{layoutEntry, HeldAlone};
 ghost use Rattle.format.specs.LookingUp.{mapped, aloneValue, aloneParam};
-ghost use Rattle.parts.specs.Found.{Found};
-ghost use Rattle.nth.specs.Listed.{Listed};
+ghost use Rattle.lookup_part.specs.Found.{Found};
+ghost use Rattle.lookup_nth.specs.Listed.{Listed};
 ghost use Rattle.lookup.specs.OfHeld.{paramsHeld};
 
 pub fn value<'a>(h: CpimHeader, store: &'a [u8], found: &mut bool) -> &'a [u8]

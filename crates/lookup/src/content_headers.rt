@@ -2,16 +2,16 @@
 // bytes may be lent, and any n asked for.
 
 use format::CpimMessage;
-use held::message_holds;
-use nth::nth_name;
-use nth::nth_value;
+use lookup_nth::nth_name;
+use lookup_nth::nth_value;
+use store_check::message_holds;
 ghost use mathlib.Core.Option.{Option};
 ghost use Rattle.format.specs.Message.{Message};
 ghost use Rattle.format.specs.Layout.{layoutEntry, Held};
 ghost use Rattle.format.specs.Lending.{headLent};
 ghost use Rattle.format.specs.LookingUp.{mapped, getContent};
-ghost use Rattle.parts.specs.Found.{Found};
-ghost use Rattle.nth.specs.Listed.{Listed};
+ghost use Rattle.lookup_part.specs.Found.{Found};
+ghost use Rattle.lookup_nth.specs.Listed.{Listed};
 ghost use Rattle.lookup.specs.OfHeld.{contentsHeld};
 
 // The bytes of the content headers, and how many they are; none where no message is held.

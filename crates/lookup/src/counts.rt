@@ -2,8 +2,8 @@
 // may be lent.
 
 use format::CpimMessage;
-use held::message_holds;
-use nth::count_all;
+use lookup_nth::count_all;
+use store_check::message_holds;
 ghost use mathlib.Core.Path.{_≡_};
 ghost use mathlib.Core.Option.{Option};
 ghost use Rattle.format.specs.Message.{Message};

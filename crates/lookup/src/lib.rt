@@ -8,17 +8,17 @@ pub mod content_headers;
 pub mod counts;
 
 use format::CpimMessage;
-use named::headers_named;
-use nth::nth_name;
-use nth::nth_params;
-use nth::nth_value;
+use lookup_named::headers_named;
+use lookup_nth::nth_name;
+use lookup_nth::nth_params;
+use lookup_nth::nth_value;
 ghost use mathlib.Core.Option.{Option};
 ghost use Rattle.format.specs.Message.{Message};
 ghost use Rattle.format.specs.Layout.{layoutEntry, Held};
 ghost use Rattle.format.specs.Lending.{headLent};
 ghost use Rattle.format.specs.LookingUp.{mapped, nthHeader, getHeader, getHeaderValue, getParam};
-ghost use Rattle.parts.specs.Found.{Found};
-ghost use Rattle.nth.specs.Listed.{Listed, paramsOf};
+ghost use Rattle.lookup_part.specs.Found.{Found};
+ghost use Rattle.lookup_nth.specs.Listed.{Listed, paramsOf};
 
 // The n-th value of a name.
 pub fn get_header_value<'a>(

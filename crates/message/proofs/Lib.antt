@@ -1,3 +1,3 @@
-pub mod Bodies
+pub mod BodyStored
 pub mod Subjects
 pub mod Wrapping

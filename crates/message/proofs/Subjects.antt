@@ -18,8 +18,8 @@ use Rattle.format.specs.declared.Numbers.{Numbers}
 use Rattle.format.specs.declared.CpimMessage.{CpimMessage}
 use Rattle.format.proofs.Steps.{then-passed, then-bind}
 use Rattle.format.proofs.Rulesets.{checks}
-use Rattle.placing.specs.Placing.{Does}
-use Rattle.changing.proofs.Steps.{does-passed}
+use Rattle.message_edit.specs.Edits.{Does}
+use Rattle.message_rules.proofs.MessageChecks.{does-passed}
 use Rattle.message.proofs.Wrapping.{lang-put, lang-name, subject-name}
 
 pub param-short : (v : Bytes) → passes (paramValue v) ≡ true → length v ≤ maxParamValue

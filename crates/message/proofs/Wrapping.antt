@@ -22,8 +22,8 @@ use Rattle.format.proofs.Characters.Chars.{utf8-ascii-text}
 use Rattle.format.proofs.Computing.{computing}
 use Rattle.format.proofs.Answers.{over-limit}
 use Rattle.octets.proofs.Paste.{pasted-start, pasted-pasted}
-use Rattle.store.proofs.Splicing.{entry-length}
-use Rattle.placing.specs.Placing.{Does}
+use Rattle.store_splice.proofs.Splicing.{entry-length}
+use Rattle.message_edit.specs.Edits.{Does}
 
 module _ (c d : Call) (handed : handedIn c ≡ handedIn d) (texts : all isUtf8 (arguments c) ≡ all isUtf8 (arguments d))
     (same : (st : Stores) (m : Message) → change c st m ≡ change d st m) where

@@ -1,14 +1,14 @@
 // The source's `with_` wrappers: each sets or adds one header. A refused one keeps the message.
 
-use changing::add_held;
-use changing::append_held;
-use changing::ready;
-use changing::refused;
 use format::Answer;
 use format::CpimMessage;
 use format::Numbers;
+use message_rules::add_held;
+use message_rules::append_held;
+use message_rules::ready;
+use message_rules::refused;
 use octets::copy_at;
-use store::Notation;
+use store_splice::Notation;
 ghost use mathlib.Core.Path.{_≡_};
 ghost use Prim.Native.Nat.{_+_, _-_, _^_, _≤_, min};
 ghost use lib.ListN.{length};
@@ -57,7 +57,7 @@ pub fn with_subject_lang(m: CpimMessage, head: &mut [u8], subject: &[u8], lang: 
         return refused(p, m);
     }
     let mut tail = [0u8; 276];
-    store::put_entry(
+    store_splice::put_entry(
         &mut tail,
         0,
         b"lang",

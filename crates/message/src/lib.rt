@@ -3,23 +3,23 @@
 
 pub mod builders;
 
-use changing::add_held;
-use changing::content_held;
-use changing::ready;
-use changing::refused;
-use changing::set_held;
 use format::Answer;
 use format::CpimMessage;
 use format::Numbers;
-use held::MAX_BODY_SIZE;
+use message_rules::add_held;
+use message_rules::content_held;
+use message_rules::ready;
+use message_rules::refused;
+use message_rules::set_held;
 use octets::copy_at;
+use store_check::MAX_BODY_SIZE;
 ghost use mathlib.Core.Path.{_≡_};
 ghost use Rattle.format.specs.Calls.{set-body, set-header, add-header, add-content-header};
 ghost use Rattle.format.specs.Layout.{emptyMessage};
 ghost use Rattle.format.specs.Lending.{headLent, bothLent, numbersOf, Changed, Made};
 
 // A refusal of a call that hands back no message.
-pub fn nothing(number: u64, carried: u64) -> Answer
+pub fn no_message(number: u64, carried: u64) -> Answer
     ensures { λ r. ⌜ r ≡ record { number = number; carried = carried; message = emptyMessage } ⌝ }
 {
     Answer {
@@ -41,20 +41,20 @@ pub fn new(content_type: &[u8], body: &[u8], head: &mut [u8], store: &mut [u8]) 
     ensures { λ r. ⌜ Made (now («content_type» .entry)) (now (body .entry)) (bothLent emptyMessage (now (head .entry)) (now (store .entry))) (bothLent (r .message) (now (head .exit)) (now (store .exit))) (numbersOf r) ⌝ }
 {
     if !utf8::is_utf8(content_type) {
-        return nothing(24, 0);
+        return no_message(24, 0);
     }
     let t = validate::validate_content_type(content_type);
     if t.number != 0 {
-        return nothing(t.number, t.carried);
+        return no_message(t.number, t.carried);
     }
     if MAX_BODY_SIZE < body.len() {
-        return nothing(23, body.len() as u64);
+        return no_message(23, body.len() as u64);
     }
     if head.len() < 256 {
-        return nothing(25, 256);
+        return no_message(25, 256);
     }
     if store.len() < body.len() {
-        return nothing(26, body.len() as u64);
+        return no_message(26, body.len() as u64);
     }
     let zeros = [0u8; 256];
     copy_at(head, 0, &zeros);
@@ -79,7 +79,7 @@ pub fn set_body(m: CpimMessage, head: &[u8], store: &mut [u8], body: &[u8]) -> A
     ensures { λ r. ⌜ Changed (set-body (now (body .entry))) (bothLent m (now (head .entry)) (now (store .entry))) (bothLent (r .message) (now (head .exit)) (now (store .exit))) (numbersOf r) ⌝ }
 {
     let len = body.len();
-    if !held::message_holds(m, head) {
+    if !store_check::message_holds(m, head) {
         return refused(
             Numbers {
                 number: 25,

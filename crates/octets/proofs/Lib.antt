@@ -1,6 +1,6 @@
 pub mod Comparing
 pub mod Find
-pub mod Looking
+pub mod ByteBlock
 pub mod Paste
 pub mod Shifts
 pub mod Written

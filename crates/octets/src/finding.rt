@@ -23,7 +23,7 @@ pub fn has_byte(block: &[u8], c: u8) -> bool
 }
 
 // The place of the first c, or the length where there is none: byte by byte.
-fn find_plain(s: &[u8], c: u8) -> usize
+fn find_byte_plain(s: &[u8], c: u8) -> usize
     ensures { λ r. ⌜ r ≡ length (upTo c (now (s .entry))) ⌝ }
 {
     let mut i = 0;
@@ -43,9 +43,9 @@ pub fn find_byte(s: &[u8], c: u8) -> usize
     let mut i = 0;
     while 16 <= s.len() - i {
         if has_byte(&s[i..i + 16], c) {
-            return i + find_plain(&s[i..], c);
+            return i + find_byte_plain(&s[i..], c);
         }
         i += 16;
     }
-    i + find_plain(&s[i..], c)
+    i + find_byte_plain(&s[i..], c)
 }

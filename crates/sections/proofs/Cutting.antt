@@ -14,7 +14,7 @@ use Rattle.sections.specs.declared.Piece.{Piece}
 use Rattle.sections.specs.Place.{place}
 use Rattle.sections.specs.Cuts.{cutOf, separatorFor, lineEndFor}
 use Rattle.sections.proofs.FirstPlace.{place-le}
-use Rattle.sections.proofs.Found.{found-fits, found-pieces, none-pieces, none-occurs, some-occurs}
+use Rattle.sections.proofs.FirstCut.{found-fits, found-pieces, none-pieces, none-occurs, some-occurs}
 
 -- the sections and the lines by what the two tests answer
 pub sections-are : (t : Bytes) → sections t ≡ pieces (split (separatorFor (occurs CRLFCRLF t)) t)

@@ -14,7 +14,7 @@ use Rattle.format.proofs.Splitting.Split.{join-one, join-cons, join-split}
 use Rattle.sections.specs.declared.Piece.{Piece}
 use Rattle.sections.specs.Body.{joined, opening}
 use Rattle.sections.specs.Cuts.{cutOf}
-use Rattle.sections.proofs.Found.{found}
+use Rattle.sections.proofs.FirstCut.{found}
 use Rattle.sections.proofs.Cutting.{More, cut-more, cut-last, more-occurs, last-clear, last-whole}
 
 -- the body of a text whose separator is CRLFCRLF is part of the text

@@ -1,8 +1,8 @@
 pub mod Begins
-pub mod Blocks
+pub mod SearchBlocks
 pub mod Cutting
 pub mod FirstPlace
-pub mod Found
+pub mod FirstCut
 pub mod Joining
 pub mod Sections
 pub mod Splits

@@ -1,4 +1,4 @@
-// Document 01, "Looking up": reads a text on standard input and prints what was read of it. `showing::show` says what is printed.
+// Document 01, "Looking up": reads a text on standard input and prints what was read of it. `report::show` says what is printed.
 
 fn main() {
     let mut input = [0u8; 65537];
@@ -6,6 +6,6 @@ fn main() {
     let mut head = [0u8; 65536];
     let mut body = [0u8; 65536];
     let mut out = [0u8; 1712];
-    let end = showing::show(&input[..n], &mut head, &mut body, &mut out);
+    let end = report::show(&input[..n], &mut head, &mut body, &mut out);
     io::write_all(1, &out[..end]);
 }

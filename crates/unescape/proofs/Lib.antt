@@ -1,4 +1,4 @@
 pub mod Escapes
 pub mod Hex
-pub mod Scalars
+pub mod EscapedScalars
 pub mod Stretches

@@ -2,4 +2,4 @@ pub mod ClearEnds
 pub mod LastChar
 pub mod ShortEnds
 pub mod Stripping
-pub mod WhiteSpace
+pub mod WhiteTests

@@ -13,8 +13,8 @@ use Rattle.format.proofs.Lists.{rest-is}
 use Rattle.format.proofs.Characters.Chars.{flat-chars, chars-nil, chars-whole, chars-ascii, ascii-whole}
 use Rattle.format.proofs.Characters.Trim.{back-clear}
 use Rattle.characters.specs.Lengths.{subpartLen}
-use Rattle.characters.proofs.Ends.{subpart-chars}
-use Rattle.unicode.proofs.WhiteSpace.{white-short, white-whole}
+use Rattle.characters.proofs.CharEnds.{subpart-chars}
+use Rattle.unicode.proofs.WhiteTests.{white-short, white-whole}
 use Rattle.unicode.specs.Trimming.{WhiteFront, WhiteBack}
 use Rattle.unicode.proofs.LastChar.{chars-last}
 use Rattle.unicode.proofs.ShortEnds.{first-fails, last-fails}

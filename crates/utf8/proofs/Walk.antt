@@ -13,10 +13,10 @@ use Rattle.format.specs.Characters.{wellFormed}
 use Rattle.format.proofs.Lists.{below}
 use Rattle.format.proofs.Characters.Chars.{ascii-whole, utf8-whole}
 use Rattle.characters.specs.Lengths.{utf8End, Passed}
-use Rattle.characters.proofs.Ends.{passed}
+use Rattle.characters.proofs.CharEnds.{passed}
 use Rattle.utf8.specs.Sound.{SoundAt}
 use Rattle.utf8.specs.Blocks.{Settled}
-use Rattle.utf8.proofs.Whole.{two, three, four}
+use Rattle.utf8.proofs.WellFormed.{two, three, four}
 
 -- bytes of a text by their places
 one-at : (s : Bytes) (i : ℕ) → i < length s → take 1 (drop i s) ≡ getD s i 0 ∷ []

@@ -11,7 +11,7 @@ ghost use lib.ListN.{length};
 ghost use Rattle.format.specs.Characters.{isUtf8};
 ghost use Rattle.characters.specs.Coded.{codedRows};
 ghost use Rattle.characters.specs.Lengths.{utf8End};
-ghost use Rattle.utf8.specs.Parts.{partEnd, charsEnd};
+ghost use Rattle.utf8.specs.CharsEnd.{partEnd, charsEnd};
 
 // Passes over characters, one by one, until one ends at `stop` or behind it, or an ill-formed subpart stands there.
 fn past_chars(rows: &[[u8; 8]; 9], s: &[u8], from: usize, stop: usize) -> usize

@@ -1,2 +1,2 @@
 pub mod Searching
-pub mod Tests
+pub mod EmptyText

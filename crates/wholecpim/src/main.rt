@@ -1,5 +1,5 @@
 // Reads a notice on standard input and says whether what the gateway would write for it comes back whole, and if not what is lost and why.
-// `showing::telling::tell` says what is printed.
+// `report::telling::tell` says what is printed.
 
 fn main() {
     let mut input = [0u8; 65537];
@@ -7,6 +7,6 @@ fn main() {
     let mut head = [0u8; 65536];
     let mut body = [0u8; 65536];
     let mut out = [0u8; 936];
-    let end = showing::telling::tell(&input[..n], &mut head, &mut body, &mut out);
+    let end = report::telling::tell(&input[..n], &mut head, &mut body, &mut out);
     io::write_all(1, &out[..end]);
 }

@@ -97,7 +97,7 @@ impl<'a> Message<'a> {
         with_require(feature)
     }
 
-    /// Runs a script of changing calls (crates/script/specs/Script.antt) up to its first place where no whole call stands.
+    /// Runs a script of changing calls (crates/calls_script/specs/Script.antt) up to its first place where no whole call stands.
     pub fn run(&mut self, script: &[u8]) {
         self.record = raw::run(script, self.record, self.head, self.body);
     }

@@ -4,7 +4,7 @@ use crate::places::{Places, MOST};
 use crate::raw::{self, text, Record};
 use std::fmt;
 
-/// Why a message does not come back from its text: the first clause of demand 3 that fails (crates/whole/specs/Loss.antt), and for which header
+/// Why a message does not come back from its text: the first clause of demand 3 that fails (crates/roundtrip/specs/Loss.antt), and for which header
 /// or content header, by its number in map order, counting from 0, and its name.
 #[derive(Debug, Clone, Copy, PartialEq, Eq)]
 pub enum Loss<'a> {
@@ -56,7 +56,7 @@ fn name(record: Record, head: &[u8], n: usize) -> &str {
     text(&head[at])
 }
 
-/// The words of the program `wholecpim` (crates/showing/specs/Words.antt): entries are counted from 1 here.
+/// The words of the program `wholecpim` (crates/report/specs/Words.antt): entries are counted from 1 here.
 impl fmt::Display for Loss<'_> {
     fn fmt(&self, f: &mut fmt::Formatter<'_>) -> fmt::Result {
         let mut entry = |what: &str, n: &usize, name: &str, why: &str| {

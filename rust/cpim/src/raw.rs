@@ -219,7 +219,7 @@ pub fn loss(m: Record, head: &[u8], body: &[u8]) -> Loss {
     unsafe { cpim_loss(m, head.as_ptr(), head.len(), body.as_ptr(), body.len()) }
 }
 
-/// A script of changing calls (crates/script/specs/Script.antt), run one behind another.
+/// A script of changing calls (crates/calls_script/specs/Script.antt), run one behind another.
 pub fn run(script: &[u8], m: Record, head: &mut [u8], body: &mut [u8]) -> Record {
     let (s, h, b) = (script, head, body);
     unsafe { cpim_run(s.as_ptr(), s.len(), m, h.as_mut_ptr(), h.len(), b.as_mut_ptr(), b.len()) }

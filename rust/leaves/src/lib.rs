@@ -1,4 +1,4 @@
-//! The leaves, proved in the crates that crates/leaves names, as safe functions. Each tests what the function asks for.
+//! The leaves, proved in the crates that crates/leaf_exports names, as safe functions. Each tests what the function asks for.
 
 pub use common::Random;
 

@@ -10,7 +10,7 @@ use Rattle.octets.proofs.Paste.{pasted-nil, length-pasted}
 use Rattle.format.proofs.Typed.{the}
 use Rattle.escape.specs.Forms.{takesForm, widthForm, writtenForm}
 use Rattle.escape.proofs.BareBytes.{bare-escape}
-use Rattle.escape.proofs.Turns.{width-written, takes-some, turn-within, turn-length, turn-pasted, escape-end}
+use Rattle.escape.proofs.EscapeTurns.{width-written, takes-some, turn-within, turn-length, turn-pasted, escape-end}
 use Rattle.escape.proofs.escape_header_value.Statement.{statement}
 use Rattle.escape.proofs.escape_header_value.Tie as tie
 

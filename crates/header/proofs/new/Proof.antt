@@ -9,8 +9,8 @@ use Rattle.format.specs.Layout.{emptyHeader}
 use Rattle.format.proofs.Answers.{zero-passes}
 use Rattle.format.proofs.Typed.{the}
 use Rattle.header.specs.Alone.{aloneIn}
-use Rattle.header.proofs.Steps.{does-passed, handed-on}
-use Rattle.header.proofs.Ways.{text-fails, text-passes, value-short, made, fresh-short, fresh-laid}
+use Rattle.header.proofs.HeaderChecks.{does-passed, handed-on}
+use Rattle.header.proofs.HeaderExits.{text-fails, text-passes, value-short, made, fresh-short, fresh-laid}
 use Rattle.header.proofs.new.Statement.{statement}
 use Rattle.header.proofs.new.Tie as tie
 
@@ -20,7 +20,7 @@ returns c =
     let value = args .value .now in
     let store = args .store .now in
     made value store _ _
-    (handed-on emptyHeader store _ _ (utf8 value) _ (c .nothing .ensures) (text-fails value (sym (the tie.After-is-utf8 (search) .is-utf8 .ensures) ∙ not-true _ (c .before .if1 .taken))) (λ z. omega (arith, z)))
+    (handed-on emptyHeader store _ _ (utf8 value) _ (c .no-header .ensures) (text-fails value (sym (the tie.After-is-utf8 (search) .is-utf8 .ensures) ∙ not-true _ (c .before .if1 .taken))) (λ z. omega (arith, z)))
 
 returns-2 : tie.Need-returns-2
 returns-2 c =
@@ -29,7 +29,7 @@ returns-2 c =
     let store = args .store .now in
     made value store _ _
     (does-passed (aloneIn emptyHeader store) _ _ (utf8 value) _ (text-passes value (sym (the tie.After-is-utf8 (search) .is-utf8 .ensures) ∙ not-false _ (the tie.Else1 (search) .if1 .left)))
-    (handed-on emptyHeader store _ _ (headerValue value) _ (c .nothing2 .ensures) (the tie.After-validate-cpim-header-value (search) .validate-cpim-header-value .ensures) (c .before .if2 .taken)))
+    (handed-on emptyHeader store _ _ (headerValue value) _ (c .no-header2 .ensures) (the tie.After-validate-cpim-header-value (search) .validate-cpim-header-value .ensures) (c .before .if2 .taken)))
 
 add-size : tie.Need-add-size
 add-size c =
@@ -46,7 +46,7 @@ returns-3 c =
     made value store _ _
     (does-passed (aloneIn emptyHeader store) _ _ (utf8 value) _ (text-passes value (sym (the tie.After-is-utf8 (search) .is-utf8 .ensures) ∙ not-false _ (the tie.Else1 (search) .if1 .left)))
     (does-passed (aloneIn emptyHeader store) _ _ (headerValue value) _ v
-    (fresh-short value store _ (c .nothing3 .ensures) (omega arith) (omega (arith, value-short value v)))))
+    (fresh-short value store _ (c .no-header3 .ensures) (omega arith) (omega (arith, value-short value v)))))
 
 returns-4 : tie.Need-returns-4
 returns-4 c =

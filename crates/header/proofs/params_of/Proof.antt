@@ -1,6 +1,6 @@
 -- `header::params_of` meets its contract. Assumes nothing.
 use native.Mathlib.Omega.{arith}
-use Rattle.header.proofs.Bounds.{bounds, params-grouped}
+use Rattle.header.proofs.HeaderBounds.{bounds, params-grouped}
 use Rattle.header.proofs.params_of.Statement.{statement}
 use Rattle.header.proofs.params_of.Tie as tie
 

@@ -7,8 +7,8 @@ use Rattle.format.specs.Validators.{paramName, paramValue}
 use Rattle.format.proofs.Answers.{zero-passes}
 use Rattle.format.proofs.Typed.{the}
 use Rattle.header.specs.Alone.{aloneIn, DoesAlone}
-use Rattle.header.proofs.Bounds.{bounds, params-fit}
-use Rattle.header.proofs.Steps.{does-passed, handed-on, name-short, value-short, set-steps, too-many, param-set}
+use Rattle.header.proofs.HeaderBounds.{bounds, params-fit}
+use Rattle.header.proofs.HeaderChecks.{does-passed, handed-on, name-short, value-short, set-steps, too-many, param-set}
 use Rattle.header.proofs.set_param_held.Statement.{statement}
 use Rattle.header.proofs.set_param_held.Tie as tie
 
@@ -35,7 +35,7 @@ returns c =
     let name = args .name .now in
     let value = args .value .now in
     λ k held. subst (DoesAlone (aloneIn h store) _ _) (sym (set-steps name value k (length store)))
-    (handed-on h store _ _ (paramName name) _ (c .refused .ensures) (validate-param-name-before-params-of (search) .validate-param-name .ensures) (c .before .if1 .taken))
+    (handed-on h store _ _ (paramName name) _ (c .header-refused .ensures) (validate-param-name-before-params-of (search) .validate-param-name .ensures) (c .before .if1 .taken))
 
 returns-2 : tie.Need-returns-2
 returns-2 c =
@@ -47,7 +47,7 @@ returns-2 c =
     let n = zero-passes (paramName name) _ (validate-param-name-before-params-of (search) .validate-param-name .ensures) (the tie.Else1 (search) .if1 .left) in
     λ k held. subst (DoesAlone (aloneIn h store) _ _) (sym (set-steps name value k (length store)))
     (does-passed (aloneIn h store) _ _ (paramName name) _ n
-    (handed-on h store _ _ (paramValue value) _ (c .refused2 .ensures) (the tie.After-validate-param-value (search) .validate-param-value .ensures) (c .before .if2 .taken)))
+    (handed-on h store _ _ (paramValue value) _ (c .header-refused2 .ensures) (the tie.After-validate-param-value (search) .validate-param-value .ensures) (c .before .if2 .taken)))
 
 returns-3 : tie.Need-returns-3
 returns-3 c =
@@ -64,8 +64,8 @@ returns-3 c =
     (does-passed (aloneIn h store) _ _ (paramValue value) _ v
     (too-many name value k h h store store _ held (omega arith) (within .params) refl)))
 
-put-param-requires : tie.Need-put-param-requires
-put-param-requires c κs =
+splice-param-requires : tie.Need-splice-param-requires
+splice-param-requires c κs =
     let start = start-before-validate-param-value (search) in
     let h = start .args .h in
     let store = start .args .store .now in
@@ -89,10 +89,10 @@ returns-4 c =
     (does-passed (aloneIn h store) _ _ (paramName name) _ n
     (does-passed (aloneIn h store) _ _ (paramValue value) _ v
     (param-set name value k h _ store _ _ held _ _ _ (the tie.After-params-of (search) .params-of .ensures k held) (omega arith)
-    (λ l g t parted. the tie.After-put-param (search) .put-param .ensures k l g t held parted))))
+    (λ l g t parted. the tie.After-splice-param (search) .splice-param .ensures k l g t held parted))))
 
 pub set-param-held-spec : {M : Type 1} → statement M
 set-param-held-spec =
     tie.close
     (tie.spec (λ c κs. search needs) (λ c κs. search needs) params-of-requires add-count (λ c κs. search needs) (λ c. search needs) returns
-    (λ c κs. search needs) (λ c. search needs) returns-2 (λ c. search needs) returns-3 put-param-requires (λ c. search needs) returns-4)
+    (λ c κs. search needs) (λ c. search needs) returns-2 (λ c. search needs) returns-3 splice-param-requires (λ c. search needs) returns-4)

@@ -4,7 +4,7 @@ use borrow.Author.Needs.{needs}
 use borrow.Author.Tests.{not-true, not-false}
 use Rattle.format.proofs.Typed.{the}
 use Rattle.header.specs.Alone.{aloneIn}
-use Rattle.header.proofs.Ways.{both-texts, not-held, not-texts, when-held}
+use Rattle.header.proofs.HeaderExits.{both-texts, not-held, not-texts, when-held}
 use Rattle.header.proofs.with_param.Statement.{statement}
 use Rattle.header.proofs.with_param.Tie as tie
 

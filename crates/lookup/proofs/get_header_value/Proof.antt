@@ -2,11 +2,11 @@
 use borrow.Author.Needs.{needs}
 use Rattle.format.specs.Lending.{headLent}
 use Rattle.format.specs.LookingUp.{getHeaderValue}
-use Rattle.held.proofs.Held.{held-total}
-use Rattle.nth.proofs.Lists.{headers-shaped, header-value}
-use Rattle.named.specs.Named.{headersNamed}
+use Rattle.store_check.proofs.HeldDecided.{held-total}
+use Rattle.lookup_nth.proofs.NthElement.{headers-shaped, header-value}
+use Rattle.lookup_named.specs.HeadersNamed.{headersNamed}
 use Rattle.format.proofs.Typed.{the}
-use Rattle.lookup.proofs.Looking.{nth-named}
+use Rattle.lookup.proofs.NthNamed.{nth-named}
 use Rattle.lookup.proofs.get_header_value.Statement.{statement}
 use Rattle.lookup.proofs.get_header_value.Tie as tie
 

@@ -2,11 +2,11 @@
 use borrow.Author.Needs.{needs}
 use Rattle.format.specs.Lending.{headLent}
 use Rattle.format.specs.LookingUp.{nthHeader}
-use Rattle.held.proofs.Held.{held-total}
-use Rattle.nth.specs.Listed.{paramsOf}
-use Rattle.nth.proofs.Lists.{entries-shaped, entry-name}
+use Rattle.store_check.proofs.HeldDecided.{held-total}
+use Rattle.lookup_nth.specs.Listed.{paramsOf}
+use Rattle.lookup_nth.proofs.NthElement.{entries-shaped, entry-name}
 use Rattle.format.proofs.Typed.{the}
-use Rattle.lookup.proofs.Looking.{nth-param}
+use Rattle.lookup.proofs.NthNamed.{nth-param}
 use Rattle.lookup.proofs.get_param_name.Statement.{statement}
 use Rattle.lookup.proofs.get_param_name.Tie as tie
 

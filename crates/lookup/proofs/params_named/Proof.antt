@@ -1,11 +1,11 @@
 -- `lookup::params_named` meets its contract. Assumes nothing.
 use borrow.Author.Needs.{needs}
 use Rattle.format.specs.Lending.{headLent}
-use Rattle.held.proofs.Held.{held-total}
-use Rattle.nth.proofs.Lists.{headers-shaped, header-params}
-use Rattle.named.specs.Named.{headersNamed}
+use Rattle.store_check.proofs.HeldDecided.{held-total}
+use Rattle.lookup_nth.proofs.NthElement.{headers-shaped, header-params}
+use Rattle.lookup_named.specs.HeadersNamed.{headersNamed}
 use Rattle.format.proofs.Typed.{the}
-use Rattle.lookup.proofs.Looking.{nth-named}
+use Rattle.lookup.proofs.NthNamed.{nth-named}
 use Rattle.lookup.proofs.params_named.Statement.{statement}
 use Rattle.lookup.proofs.params_named.Tie as tie
 

@@ -7,7 +7,7 @@ use borrow.Author.Needs.{needs}
 use lib.Dec.{ltb}
 use Rattle.format.specs.Bytes.{CRLF}
 use Rattle.format.proofs.Typed.{the}
-use Rattle.sections.proofs.Found.{occurs-place}
+use Rattle.sections.proofs.FirstCut.{occurs-place}
 use Rattle.sections.proofs.crlf_lines.Statement.{statement}
 use Rattle.sections.proofs.crlf_lines.Tie as tie
 

@@ -7,7 +7,7 @@ use borrow.Author.Needs.{needs}
 use lib.Dec.{ltb}
 use Rattle.format.specs.Bytes.{CRLFCRLF}
 use Rattle.format.proofs.Typed.{the}
-use Rattle.sections.proofs.Found.{occurs-place}
+use Rattle.sections.proofs.FirstCut.{occurs-place}
 use Rattle.sections.proofs.crlf_sections.Statement.{statement}
 use Rattle.sections.proofs.crlf_sections.Tie as tie
 

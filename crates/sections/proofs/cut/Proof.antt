@@ -3,7 +3,7 @@ use mathlib.Core.Path.{sym, _∙_}
 use native.Mathlib.Omega.{arith}
 use borrow.Author.Needs.{needs}
 use Rattle.format.proofs.Typed.{the}
-use Rattle.sections.proofs.Found.{some-fits}
+use Rattle.sections.proofs.FirstCut.{some-fits}
 use Rattle.sections.proofs.Cutting.{cut-none, cut-some}
 use Rattle.sections.proofs.cut.Statement.{statement}
 use Rattle.sections.proofs.cut.Tie as tie

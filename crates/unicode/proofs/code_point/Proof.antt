@@ -4,7 +4,7 @@ use mathlib.Core.Path.{sym}
 use native.Mathlib.Omega.{arith}
 use borrow.Author.Needs.{needs}
 use Rattle.format.proofs.Typed.{the}
-use Rattle.unicode.proofs.WhiteSpace.{point-one, point-two, point-three, point-four, point-other}
+use Rattle.unicode.proofs.WhiteTests.{point-one, point-two, point-three, point-four, point-other}
 use Rattle.unicode.proofs.code_point.Statement.{statement}
 use Rattle.unicode.proofs.code_point.Tie as tie
 

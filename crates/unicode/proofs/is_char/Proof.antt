@@ -2,7 +2,7 @@
 -- Assumes nothing.
 use borrow.Author.Needs.{needs}
 use Rattle.format.proofs.Typed.{the}
-use Rattle.unicode.proofs.WhiteSpace.{whole-none, whole-tested}
+use Rattle.unicode.proofs.WhiteTests.{whole-none, whole-tested}
 use Rattle.unicode.proofs.is_char.Statement.{statement}
 use Rattle.unicode.proofs.is_char.Tie as tie
 

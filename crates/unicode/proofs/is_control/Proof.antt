@@ -4,7 +4,7 @@ use mathlib.Core.Path.{_∙_}
 use native.Mathlib.Omega.{arith}
 use borrow.Author.Needs.{needs}
 use Rattle.format.proofs.Typed.{the}
-use Rattle.unicode.proofs.WhiteSpace.{control-low, control-between, control-above, control-high}
+use Rattle.unicode.proofs.WhiteTests.{control-low, control-between, control-above, control-high}
 use Rattle.unicode.proofs.is_control.Statement.{statement}
 use Rattle.unicode.proofs.is_control.Tie as tie
 

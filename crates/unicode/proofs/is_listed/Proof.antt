@@ -11,7 +11,7 @@ use lib.Dec.{eqb}
 use Rattle.format.specs.Bytes.{any}
 use Rattle.format.specs.Characters.{whiteSpace}
 use Rattle.format.proofs.Typed.{the}
-use Rattle.unicode.proofs.WhiteSpace.{any-hit, any-miss, any-end}
+use Rattle.unicode.proofs.WhiteTests.{any-hit, any-miss, any-end}
 use Rattle.unicode.proofs.is_listed.Statement.{statement}
 use Rattle.unicode.proofs.is_listed.Tie as tie
 

@@ -8,7 +8,7 @@ use lib.Dec.{eqb}
 use Rattle.format.specs.Bytes.{any}
 use Rattle.format.specs.Characters.{whiteSpace, isWhite}
 use Rattle.format.proofs.Typed.{the}
-use Rattle.unicode.proofs.WhiteSpace.{list-one, white-listed, white-unlisted}
+use Rattle.unicode.proofs.WhiteTests.{list-one, white-listed, white-unlisted}
 use Rattle.unicode.proofs.is_white.Statement.{statement}
 use Rattle.unicode.proofs.is_white.Tie as tie
 

@@ -3,7 +3,7 @@
 -- Assumes nothing.
 use native.Mathlib.Omega.{arith}
 use Rattle.format.proofs.Typed.{the}
-use Rattle.unicode.proofs.WhiteSpace.{byte-below, byte-among, byte-above}
+use Rattle.unicode.proofs.WhiteTests.{byte-below, byte-among, byte-above}
 use Rattle.unicode.proofs.is_white_byte.Statement.{statement}
 use Rattle.unicode.proofs.is_white_byte.Tie as tie
 

@@ -4,10 +4,10 @@ use Prim.Native.Nat.{_<_}
 use native.Mathlib.Omega.{arith}
 use borrow.Author.Needs.{needs}
 use Rattle.format.proofs.Characters.Chars.{utf8-ascii-text}
-use Rattle.characters.proofs.Ends.{utf8-tested}
+use Rattle.characters.proofs.CharEnds.{utf8-tested}
 use Rattle.format.proofs.Typed.{the}
 use Rattle.utf8.specs.Blocks.{largestOf}
-use Rattle.utf8.proofs.Answers.{ascii-is}
+use Rattle.utf8.proofs.Utf8Answers.{ascii-is}
 use Rattle.utf8.proofs.is_utf8.Statement.{statement}
 use Rattle.utf8.proofs.is_utf8.Tie as tie
 

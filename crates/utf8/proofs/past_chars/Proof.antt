@@ -6,10 +6,10 @@ use Prim.Native.Nat.{_-_, _≤_}
 use native.Mathlib.Omega.{arith}
 use lib.ListN.{length}
 use borrow.Author.Needs.{needs}
-use Rattle.characters.proofs.Ends.{char-step}
+use Rattle.characters.proofs.CharEnds.{char-step}
 use Rattle.format.proofs.Typed.{the}
-use Rattle.utf8.specs.Parts.{charsEnd}
-use Rattle.utf8.proofs.Parts.{chars-stop, chars-ill, chars-more}
+use Rattle.utf8.specs.CharsEnd.{charsEnd}
+use Rattle.utf8.proofs.CharsEnd.{chars-stop, chars-ill, chars-more}
 use Rattle.utf8.proofs.past_chars.Statement.{statement}
 use Rattle.utf8.proofs.past_chars.Tie as tie
 

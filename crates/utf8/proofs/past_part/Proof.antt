@@ -7,8 +7,8 @@ use lib.ListN.{take, drop}
 use borrow.Author.Needs.{needs}
 use Rattle.format.proofs.Typed.{the}
 use Rattle.utf8.specs.Blocks.{largestOf}
-use Rattle.utf8.proofs.Answers.{ascii-is}
-use Rattle.utf8.proofs.Parts.{chars-ascii-part}
+use Rattle.utf8.proofs.Utf8Answers.{ascii-is}
+use Rattle.utf8.proofs.CharsEnd.{chars-ascii-part}
 use Rattle.utf8.proofs.past_part.Statement.{statement}
 use Rattle.utf8.proofs.past_part.Tie as tie
 

@@ -6,10 +6,10 @@ use Prim.Native.Nat.{_-_}
 use native.Mathlib.Omega.{arith}
 use lib.ListN.{length}
 use Rattle.characters.specs.Lengths.{utf8End}
-use Rattle.characters.proofs.Ends.{end-end}
+use Rattle.characters.proofs.CharEnds.{end-end}
 use Rattle.format.proofs.Typed.{the}
 use Rattle.utf8.proofs.Passed.{blocks-end-passed}
-use Rattle.utf8.proofs.Parts.{turn-keeps, turn-ends, turn-less}
+use Rattle.utf8.proofs.CharsEnd.{turn-keeps, turn-ends, turn-less}
 use Rattle.utf8.proofs.utf8_end.Statement.{statement}
 use Rattle.utf8.proofs.utf8_end.Tie as tie
 

@@ -8,7 +8,7 @@ use Rattle.format.specs.Refusals.{numbers, table, refuseIf, atMost, _>>_}
 use Rattle.format.specs.Validators.{contentType}
 use Rattle.format.proofs.Answers.{carried}
 use Rattle.format.proofs.Typed.{the}
-use Rattle.validate.proofs.Tests.{empty-is, empty-not}
+use Rattle.validate.proofs.EmptyText.{empty-is, empty-not}
 use Rattle.validate.proofs.validate_content_type.Statement.{statement}
 use Rattle.validate.proofs.validate_content_type.Tie as tie
 

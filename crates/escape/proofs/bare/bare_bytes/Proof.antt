@@ -10,7 +10,7 @@ use borrow.Author.Tests.{not-true, not-false}
 use Rattle.format.specs.Bytes.{all}
 use Rattle.format.proofs.Typed.{the}
 use Rattle.escape.specs.Bare.{isBare}
-use Rattle.escape.proofs.Parts.{all-start, all-byte, all-other}
+use Rattle.escape.proofs.Overlapping.{all-start, all-byte, all-other}
 use Rattle.escape.proofs.bare.bare_bytes.Statement.{statement}
 use Rattle.escape.proofs.bare.bare_bytes.Tie as tie
 

@@ -11,7 +11,7 @@ use borrow.Author.Tests.{not-true, not-false}
 use Rattle.format.specs.Bytes.{all}
 use Rattle.format.proofs.Typed.{the}
 use Rattle.escape.specs.Bare.{isBare}
-use Rattle.escape.proofs.Parts.{all-start, all-next, all-stop, all-last}
+use Rattle.escape.proofs.Overlapping.{all-start, all-next, all-stop, all-last}
 use Rattle.escape.proofs.bare.bare_text.Statement.{statement}
 use Rattle.escape.proofs.bare.bare_text.Tie as tie
 

@@ -10,7 +10,7 @@ use borrow.Author.Tests.{lt-ltb, le-ltb}
 use Rattle.format.specs.Bytes.{any}
 use Rattle.format.proofs.Typed.{the}
 use Rattle.escape.specs.Bare.{isLow}
-use Rattle.octets.proofs.Looking.{any-start, any-hit, any-miss}
+use Rattle.octets.proofs.ByteBlock.{any-start, any-hit, any-miss}
 use Rattle.escape.proofs.bare.has_low.Statement.{statement}
 use Rattle.escape.proofs.bare.has_low.Tie as tie
 

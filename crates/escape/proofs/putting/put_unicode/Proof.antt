@@ -6,7 +6,7 @@ use borrow.Author.Needs.{needs}
 use Rattle.format.specs.Bytes.{pasted}
 use Rattle.octets.proofs.Paste.{stores-six}
 use Rattle.format.proofs.Typed.{the}
-use Rattle.escape.proofs.Digits.{unicode-small}
+use Rattle.escape.proofs.HexDigits.{unicode-small}
 use Rattle.escape.proofs.putting.put_unicode.Statement.{statement}
 use Rattle.escape.proofs.putting.put_unicode.Tie as tie
 

@@ -4,7 +4,7 @@ use mathlib.Core.Bool.{true}
 use native.Mathlib.Omega.{arith}
 use borrow.Author.Needs.{needs}
 use borrow.Author.Tests.{not-true, not-false}
-use Rattle.held.specs.Holding.{headerHolds}
+use Rattle.store_check.specs.Holding.{headerHolds}
 use Rattle.format.proofs.Typed.{the}
 use Rattle.lookup.proofs.LoneHeader.{no-params, value-within, size-within, params-listed}
 use Rattle.lookup.proofs.alone.params.Statement.{statement}

@@ -1,8 +1,8 @@
 -- `lookup::content_headers::content_name` meets its contract. Assumes nothing.
 use borrow.Author.Needs.{needs}
 use Rattle.format.specs.Lending.{headLent}
-use Rattle.held.proofs.Held.{held-total}
-use Rattle.nth.proofs.Lists.{entries-shaped, entry-name}
+use Rattle.store_check.proofs.HeldDecided.{held-total}
+use Rattle.lookup_nth.proofs.NthElement.{entries-shaped, entry-name}
 use Rattle.format.proofs.Typed.{the}
 use Rattle.lookup.specs.OfHeld.{contentsHeld}
 use Rattle.lookup.proofs.ContentsHeld.{nth-content}

@@ -5,7 +5,7 @@ use native.Mathlib.Omega.{arith}
 use lib.ListN.{length}
 use borrow.Author.Needs.{needs}
 use borrow.Author.Tests.{not-true, not-false}
-use Rattle.held.proofs.Cases.{used-within}
+use Rattle.store_check.proofs.HeldCases.{used-within}
 use Rattle.format.proofs.Typed.{the}
 use Rattle.lookup.proofs.ContentsHeld.{no-contents, contents-listed}
 use Rattle.lookup.proofs.content_headers.contents.Statement.{statement}

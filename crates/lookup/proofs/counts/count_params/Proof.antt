@@ -4,8 +4,8 @@ use mathlib.Core.Bool.{true}
 use native.Mathlib.Omega.{arith}
 use borrow.Author.Needs.{needs}
 use borrow.Author.Tests.{not-true, not-false}
-use Rattle.held.specs.Holding.{messageHolds}
-use Rattle.held.proofs.Cases.{used-within}
+use Rattle.store_check.specs.Holding.{messageHolds}
+use Rattle.store_check.proofs.HeldCases.{used-within}
 use Rattle.format.proofs.Typed.{the}
 use Rattle.lookup.proofs.Counting.{none-params, headers-few, headers-in-order, params-counted}
 use Rattle.lookup.proofs.counts.count_params.Statement.{statement}

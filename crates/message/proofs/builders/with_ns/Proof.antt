@@ -9,8 +9,8 @@ use Rattle.format.specs.Characters.{isUtf8}
 use Rattle.format.specs.Validators.{headerValue}
 use Rattle.format.specs.Calls.{with-ns, arguments, lends, headerHeld, change, addHeader, nsValue}
 use Rattle.format.specs.Lending.{headLent}
-use Rattle.changing.proofs.Steps.{handed-on}
-use Rattle.changing.proofs.Ways.{two-texts, call-refused, call-held, call-done}
+use Rattle.message_rules.proofs.MessageChecks.{handed-on}
+use Rattle.message_rules.proofs.CallExits.{two-texts, call-refused, call-held, call-done}
 use Rattle.format.proofs.Typed.{the}
 use Rattle.message.proofs.Wrapping.{ns-over, ns-taken, added-same}
 use Rattle.message.proofs.builders.with_ns.Statement.{statement}

@@ -11,8 +11,8 @@ use Rattle.format.specs.Validators.{headerValue, paramValue}
 use Rattle.format.specs.Message.{entry}
 use Rattle.format.specs.Calls.{with-subject-lang, arguments, lends, headerHeld}
 use Rattle.format.proofs.Answers.{zero-passes}
-use Rattle.changing.proofs.Steps.{handed-on, value-short}
-use Rattle.changing.proofs.Ways.{two-texts, call-refused, call-held, call-done}
+use Rattle.message_rules.proofs.MessageChecks.{handed-on, value-short}
+use Rattle.message_rules.proofs.CallExits.{two-texts, call-refused, call-held, call-done}
 use Rattle.format.proofs.Typed.{the}
 use Rattle.message.proofs.Subjects.{subject-value, subject-param, subject-append, param-short}
 use Rattle.message.proofs.Wrapping.{lang-taken}

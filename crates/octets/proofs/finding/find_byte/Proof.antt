@@ -24,7 +24,7 @@ loop-holds c = omega arith
 has-byte-requires : tie.Need-has-byte-requires Inv-loop μ-loop
 has-byte-requires c κs = simp (length-take, length-drop) (omega arith)
 
--- what `find_plain` gives behind the blocks
+-- what `find_byte_plain` gives behind the blocks
 behind : (s : Bytes) (b i r : ℕ) → i ≤ length s → r ≡ length (upTo b (take (length s - i) (drop i s))) → (r ≡ length (upTo b (drop i s))) × (i + r ≤ length s)
 behind s b i r h e =
     let q : r ≡ length (upTo b (drop i s)) = e ∙ ap (λ (l : Bytes). length (upTo b l)) (take-all (length s - i) (drop i s) (simp length-drop (omega arith))) in
@@ -34,13 +34,13 @@ add-result : tie.Need-add-result Inv-loop μ-loop
 add-result c =
     let at-loop : tie.At-loop Inv-loop μ-loop = search in
     let args = the (tie.Start Inv-loop μ-loop) (search) .args in
-    omega (arith, behind (args .s .now) (args .c) (at-loop .loop .i) (c .find-plain .result) (omega arith) (c .find-plain .ensures))
+    omega (arith, behind (args .s .now) (args .c) (at-loop .loop .i) (c .find-byte-plain .result) (omega arith) (c .find-byte-plain .ensures))
 
 returns : tie.Need-returns Inv-loop μ-loop
 returns c =
     let at-loop : tie.At-loop Inv-loop μ-loop = search in
     let args = the (tie.Start Inv-loop μ-loop) (search) .args in
-    omega (arith, at-loop .loop .inv, behind (args .s .now) (args .c) (at-loop .loop .i) (c .find-plain .result) (omega arith) (c .find-plain .ensures))
+    omega (arith, at-loop .loop .inv, behind (args .s .now) (args .c) (at-loop .loop .i) (c .find-byte-plain .result) (omega arith) (c .find-byte-plain .ensures))
 
 loop-again : tie.Need-loop-again Inv-loop μ-loop
 loop-again c =
@@ -58,13 +58,13 @@ add-result-2 : tie.Need-add-result-2 Inv-loop μ-loop
 add-result-2 c =
     let at-loop : tie.At-loop Inv-loop μ-loop = search in
     let args = the (tie.Start Inv-loop μ-loop) (search) .args in
-    omega (arith, behind (args .s .now) (args .c) (at-loop .loop .i) (c .find-plain2 .result) (omega arith) (c .find-plain2 .ensures))
+    omega (arith, behind (args .s .now) (args .c) (at-loop .loop .i) (c .find-byte-plain2 .result) (omega arith) (c .find-byte-plain2 .ensures))
 
 returns-2 : tie.Need-returns-2 Inv-loop μ-loop
 returns-2 c =
     let at-loop : tie.At-loop Inv-loop μ-loop = search in
     let args = the (tie.Start Inv-loop μ-loop) (search) .args in
-    omega (arith, at-loop .loop .inv, behind (args .s .now) (args .c) (at-loop .loop .i) (c .find-plain2 .result) (omega arith) (c .find-plain2 .ensures))
+    omega (arith, at-loop .loop .inv, behind (args .s .now) (args .c) (at-loop .loop .i) (c .find-byte-plain2 .result) (omega arith) (c .find-byte-plain2 .ensures))
 
 pub find-byte-spec : {M : Type 1} → statement M
 find-byte-spec =

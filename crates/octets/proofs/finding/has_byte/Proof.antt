@@ -10,7 +10,7 @@ use borrow.Author.Needs.{needs}
 use borrow.Author.Tests.{eq-eqb, ne-eqb}
 use Rattle.format.specs.Bytes.{any}
 use Rattle.format.proofs.Typed.{the}
-use Rattle.octets.proofs.Looking.{any-start, any-hit, any-miss}
+use Rattle.octets.proofs.ByteBlock.{any-start, any-hit, any-miss}
 use Rattle.octets.proofs.finding.has_byte.Statement.{statement}
 use Rattle.octets.proofs.finding.has_byte.Tie as tie
 

@@ -10,7 +10,7 @@ use borrow.Author.Needs.{needs}
 use lib.Dec.{eqb}
 use Rattle.format.proofs.Typed.{the}
 use Rattle.sections.specs.Block.{near}
-use Rattle.sections.proofs.Blocks.{apart, near-next, near-end, low-less, low-kept}
+use Rattle.sections.proofs.SearchBlocks.{apart, near-next, near-end, low-less, low-kept}
 use Rattle.sections.proofs.search.near_in.Statement.{statement}
 use Rattle.sections.proofs.search.near_in.Tie as tie
 

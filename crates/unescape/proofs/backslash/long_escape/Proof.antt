@@ -7,7 +7,7 @@ use borrow.Author.Needs.{needs}
 use Rattle.format.proofs.Typed.{the}
 use Rattle.unescape.specs.Backslash.{scalarOf}
 use Rattle.unescape.proofs.Hex.{four-most}
-use Rattle.unescape.proofs.Scalars.{scalar-four}
+use Rattle.unescape.proofs.EscapedScalars.{scalar-four}
 use Rattle.unescape.proofs.Escapes.{long-few, long-four}
 use Rattle.unescape.proofs.backslash.long_escape.Statement.{statement}
 use Rattle.unescape.proofs.backslash.long_escape.Tie as tie

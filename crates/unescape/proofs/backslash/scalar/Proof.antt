@@ -4,7 +4,7 @@ use Prim.Native.Nat.{_<_}
 use native.Mathlib.Omega.{arith}
 use Rattle.format.proofs.Typed.{the}
 use Rattle.unescape.specs.Backslash.{scalarOf}
-use Rattle.unescape.proofs.Scalars.{scalar-below, scalar-above, scalar-surrogate, scalar-none, below-most}
+use Rattle.unescape.proofs.EscapedScalars.{scalar-below, scalar-above, scalar-surrogate, scalar-none, below-most}
 use Rattle.unescape.proofs.backslash.scalar.Statement.{statement}
 use Rattle.unescape.proofs.backslash.scalar.Tie as tie
 

@@ -4,7 +4,7 @@ use mathlib.Core.Path.{sym}
 use native.Mathlib.Omega.{arith}
 use borrow.Author.Needs.{needs}
 use Rattle.format.proofs.Typed.{the}
-use Rattle.utf8.proofs.Answers.{settled-third, settled-second, settled-first}
+use Rattle.utf8.proofs.Utf8Answers.{settled-third, settled-second, settled-first}
 use Rattle.utf8.proofs.blocks.is_settled.Statement.{statement}
 use Rattle.utf8.proofs.blocks.is_settled.Tie as tie
 

@@ -8,7 +8,7 @@ use lib.ListN.{length, drop}
 use borrow.Author.Needs.{needs}
 use Rattle.format.proofs.Typed.{the}
 use Rattle.utf8.specs.Blocks.{largestOf}
-use Rattle.utf8.proofs.Answers.{largest-more, largest-none}
+use Rattle.utf8.proofs.Utf8Answers.{largest-more, largest-none}
 use Rattle.utf8.proofs.blocks.largest.Statement.{statement}
 use Rattle.utf8.proofs.blocks.largest.Tie as tie
 

@@ -5,7 +5,7 @@ use Prim.Native.Nat.{_+_, _-_}
 use native.Mathlib.Omega.{arith}
 use borrow.Author.Needs.{needs}
 use Rattle.format.proofs.Typed.{the}
-use Rattle.utf8.proofs.Answers.{block-ascii, block-first, block-sound, block-not}
+use Rattle.utf8.proofs.Utf8Answers.{block-ascii, block-first, block-sound, block-not}
 use Rattle.utf8.proofs.blocks.past_block.Statement.{statement}
 use Rattle.utf8.proofs.blocks.past_block.Tie as tie
 

@@ -7,7 +7,7 @@ use native.Mathlib.Omega.{arith}
 use lib.ListN.{length}
 use Rattle.format.proofs.Typed.{the}
 use Rattle.utf8.proofs.Passed.{block-end-passed}
-use Rattle.utf8.proofs.Answers.{Left, left-all, left-short, left-stay, left-on}
+use Rattle.utf8.proofs.Utf8Answers.{Left, left-all, left-short, left-stay, left-on}
 use Rattle.utf8.proofs.blocks.past_blocks.Statement.{statement}
 use Rattle.utf8.proofs.blocks.past_blocks.Tie as tie
 

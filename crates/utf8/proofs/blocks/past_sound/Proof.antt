@@ -5,7 +5,7 @@ use Prim.Native.Nat.{_+_, _-_}
 use native.Mathlib.Omega.{arith}
 use borrow.Author.Needs.{needs}
 use Rattle.format.proofs.Typed.{the}
-use Rattle.utf8.proofs.Answers.{sound-not, sound-first, sound-second, sound-third, sound-all}
+use Rattle.utf8.proofs.Utf8Answers.{sound-not, sound-first, sound-second, sound-third, sound-all}
 use Rattle.utf8.proofs.blocks.past_sound.Statement.{statement}
 use Rattle.utf8.proofs.blocks.past_sound.Tie as tie
 

@@ -1,4 +1,4 @@
-//! Lists of calls as scripts (crates/script/specs/Script.antt): run at once, and the same calls one by one.
+//! Lists of calls as scripts (crates/calls_script/specs/Script.antt): run at once, and the same calls one by one.
 
 use crate::lists::{step, Room};
 use crate::stores::Stores;

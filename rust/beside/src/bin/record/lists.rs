@@ -1,4 +1,4 @@
-//! Lists of changing calls, as scripts (crates/script/specs/Script.antt) and made on the source's message; a refused call keeps it.
+//! Lists of changing calls, as scripts (crates/calls_script/specs/Script.antt) and made on the source's message; a refused call keeps it.
 
 use beside::layout::{layout_alone, record_alone};
 use beside::names::Kind;

@@ -1,9 +1,9 @@
-//! Writes a list of the source's answers to standard output, for the program `replay` to hold the proved functions to. From the root,
+//! Writes a list of the source's answers to standard output, for the program `test_replay` to hold the proved functions to. From the root,
 //! with `rust/Cargo.toml` for the manifest:
 //!
-//!     cargo run --release --offline --quiet --manifest-path rust/Cargo.toml --bin record >crates/replay/stdin
+//!     cargo run --release --offline --quiet --manifest-path rust/Cargo.toml --bin record >crates/test_replay/stdin
 //!
-//! The list is the same in every run. Its form is in crates/replay/src/main.rt. The bytes of a message's entries are those of its layout,
+//! The list is the same in every run. Its form is in crates/test_replay/src/main.rt. The bytes of a message's entries are those of its layout,
 //! which the source has not; all else is the source's own answer. It is given room for everything, so 25 and 26 do not come.
 
 mod lists;

@@ -6,7 +6,7 @@ use std::process::exit;
 
 macro_rules! leaves {
     ($($name:ident)*) => {
-        /// The functions of crates/leaves/src/lib.rt, by their names there behind `leaves_`.
+        /// The functions of crates/leaf_exports/src/lib.rt, by their names there behind `leaves_`.
         #[allow(non_camel_case_types)]
         #[derive(Clone, Copy, Debug)]
         pub enum Leaf {

@@ -47,7 +47,7 @@ const GROUPS: [Group; 21] = [
     ("all: long texts", long::texts),
 ];
 
-const SOURCE: &str = include_str!(concat!(env!("CARGO_MANIFEST_DIR"), "/../../crates/leaves/src/lib.rt"));
+const SOURCE: &str = include_str!(concat!(env!("CARGO_MANIFEST_DIR"), "/../../crates/leaf_exports/src/lib.rt"));
 
 type Answers = [[u64; LEAVES.len()]; GROUPS.len()];
 

@@ -1,0 +1,3 @@
+mod BegunExits
+mod SentExits
+pub mod Trace

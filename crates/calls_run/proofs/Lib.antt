@@ -1,0 +1,3 @@
+pub mod RunLoop
+pub mod Numbers
+pub mod CallRuns

@@ -1,9 +1,0 @@
-pub mod ByName
-pub mod Layouts
-pub mod Passing
-pub mod Placing
-pub mod Reading
-pub mod Sequences
-pub mod Shapes
-pub mod Walks
-pub mod Zeros

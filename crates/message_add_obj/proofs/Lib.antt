@@ -1,0 +1,2 @@
+pub mod LoneSizes
+pub mod Adding

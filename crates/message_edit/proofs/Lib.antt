@@ -1,0 +1,4 @@
+pub mod Laying
+pub mod EntrySplice
+pub mod MessageBounds
+pub mod GroupParts

@@ -1,0 +1,3 @@
+pub mod MessageChecks
+pub mod GroupEdits
+pub mod CallExits

@@ -1,4 +1,0 @@
-pub mod Laying
-pub mod Putting
-pub mod Bounds
-pub mod Groups

@@ -1,0 +1,4 @@
+pub mod LinesLoop
+pub mod Outcomes
+pub mod SectionLine
+pub mod ReadStores

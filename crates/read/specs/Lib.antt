@@ -1,0 +1,2 @@
+pub mod SectionLines
+pub mod Outcome

@@ -1,0 +1,3 @@
+pub mod TextJudged
+pub mod BodyAnswers
+pub mod BodyEnds

@@ -1,0 +1,2 @@
+pub mod TextJudged
+pub mod BodyPlaces

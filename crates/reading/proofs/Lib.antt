@@ -1,4 +1,0 @@
-pub mod Looping
-pub mod Outcomes
-pub mod Steps
-pub mod Stores

@@ -1,0 +1,10 @@
+mod ShownCases
+mod DecimalDigits
+mod ShownLines
+mod LinesPassed
+mod EntryNames
+mod Puts
+mod Read
+mod WordRows
+mod TellingCases
+mod WordParts

@@ -1,0 +1,4 @@
+pub mod ShownLines
+pub mod Put
+pub mod Telling
+pub mod Words

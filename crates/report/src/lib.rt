@@ -1,0 +1,106 @@
+// What the programs print, over the bytes of an output: here what `showcpim` prints for its input (document 01, "Looking up";
+// crates/format/specs/Showing.antt), in `telling` what `wholecpim` does, with `words` and `decimals` for both.
+
+mod decimals;
+pub mod telling;
+mod words;
+
+use crate::decimals::put_decimal;
+use escape::escape_header_value;
+use format::CpimMessage;
+use lookup::accessors::content_type;
+use lookup::counts::count_params;
+use read::parse_cpim;
+use write_parts::lines::put;
+use write_parts::lines::put_byte;
+ghost use mathlib.Core.Path.{_≡_};
+ghost use mathlib.Core.Bool.{true};
+ghost use Prim.Native.Nat.{_+_, _≤_};
+ghost use lib.ListN.{length};
+ghost use Rattle.format.specs.Escaping.{escape};
+ghost use Rattle.format.specs.Refusals.{accepted};
+ghost use Rattle.format.specs.Message.{Message};
+ghost use Rattle.format.specs.Layout.{Holds};
+ghost use Rattle.format.specs.Lending.{headLent};
+ghost use Rattle.format.specs.Showing.{decimal, shown, showNumbers, showMessage, showcpim};
+ghost use Rattle.store_check.specs.Holding.{messageHolds};
+ghost use Rattle.report.specs.Put.{Put};
+ghost use Rattle.report.specs.ShownLines.{messageLines};
+
+// A line of a label and a number.
+fn put_number(out: &mut [u8], at: usize, label: &[u8], n: u64) -> usize
+    requires { ⌜ at + length (now label) + 22 ≤ length (now out) ⌝ }
+    ensures { λ r. ⌜ Put at (length (now (label .entry)) + 22) (shown (now (label .entry)) (decimal n)) (now (out .entry)) (now (out .exit)) r ⌝ }
+{
+    let mut to = put(out, at, label);
+    to = put_byte(out, to, b'=');
+    to = put_decimal(out, to, n);
+    put_byte(out, to, b'\n')
+}
+
+// A line of a label and a text of at most 256 bytes, escaped.
+fn put_text(out: &mut [u8], at: usize, label: &[u8], s: &[u8]) -> usize
+    requires { ⌜ (at + length (now label) + 1538 ≤ length (now out)) × (length (now s) ≤ 256) ⌝ }
+    ensures { λ r. ⌜ Put at (length (now (label .entry)) + 1538) (shown (now (label .entry)) (escape (now (s .entry)))) (now (out .entry)) (now (out .exit)) r ⌝ }
+{
+    let mut end = put(out, at, label);
+    end = put_byte(out, end, b'=');
+    end = escape_header_value(out, end, s);
+    put_byte(out, end, b'\n')
+}
+
+// The first two lines.
+fn put_numbers(out: &mut [u8], number: u64, carried: u64) -> usize
+    requires { ⌜ 57 ≤ length (now out) ⌝ }
+    ensures { λ r. ⌜ Put 0 57 (showNumbers (record { number = number; carried = carried })) (now (out .entry)) (now (out .exit)) r ⌝ }
+{
+    let to = put_number(out, 0, b"result", number);
+    put_number(out, to, b"carried", carried)
+}
+
+// The lines of a message, by its numbers and its type.
+fn put_message(
+    out: &mut [u8],
+    at: usize,
+    headers: usize,
+    params: usize,
+    contents: usize,
+    kind: &[u8],
+    bodylen: usize,
+) -> usize
+    requires { ⌜ (at + 1655 ≤ length (now out)) × (length (now kind) ≤ 256) ⌝ }
+    ensures { λ r. ⌜ Put at 1655 (messageLines headers params contents (now (kind .entry)) bodylen) (now (out .entry)) (now (out .exit)) r ⌝ }
+{
+    let mut to = put_number(out, at, b"headers", headers as u64);
+    to = put_number(out, to, b"params", params as u64);
+    to = put_number(out, to, b"contents", contents as u64);
+    to = put_text(out, to, b"type", kind);
+    put_number(out, to, b"body", bodylen as u64)
+}
+
+// The lines of the message held.
+fn put_held_lines(out: &mut [u8], at: usize, m: CpimMessage, head: &[u8]) -> usize
+    requires { ⌜ (at + 1655 ≤ length (now out)) × (messageHolds m (now head) ≡ true) ⌝ }
+    ensures { λ r. ⌜ ((k : Message) → Holds (headLent m (now (head .entry))) k → Put at 1655 (showMessage (accepted k)) (now (out .entry)) (now (out .exit)) r) ⌝ }
+{
+    let params = count_params(m, head);
+    let mut found = false;
+    let kind = content_type(m, head, &mut found);
+    put_message(out, at, m.headers, params, m.contents, kind, m.bodylen)
+}
+
+// All lines for an input: read in stores of 65,536 bytes, and refused by 26 where it is longer. Gives where they end.
+pub fn show(input: &[u8], head: &mut [u8], body: &mut [u8], out: &mut [u8]) -> usize
+    requires { ⌜ (length (now head) ≡ 65536) × (length (now body) ≡ 65536) × (1712 ≤ length (now out)) ⌝ }
+    ensures { λ r. ⌜ Put 0 1712 (showcpim (now (input .entry))) (now (out .entry)) (now (out .exit)) r ⌝ }
+{
+    if 65536 < input.len() {
+        return put_numbers(out, 26, 65537);
+    }
+    let a = parse_cpim(input, head, body);
+    let to = put_numbers(out, a.number, a.carried);
+    if a.number != 0 {
+        return to;
+    }
+    put_held_lines(out, to, a.message, head)
+}

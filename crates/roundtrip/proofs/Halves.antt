@@ -1,0 +1,110 @@
+-- The four clauses of each half, asked in their order of headers and content headers that are laid out. Assumes nothing.
+use Prim.Native.Nat.{ℕ, _≤_, _<_}
+use mathlib.Core.Path.{_≡_, sym, _∙_}
+use mathlib.Core.Bool.{Bool, true, false}
+use mathlib.Core.List.{List}
+use Rattle.format.specs.Bytes.{Bytes}
+use Rattle.format.specs.Characters.{isUtf8, isWhite, clearEnds}
+use Rattle.format.specs.Message.{Entry, Header}
+use Rattle.format.specs.Layout.{layoutEntry, layoutHeader}
+use Rattle.format.specs.Demand3.{noParam, notType, clearName, clearContent, clearValue}
+use Rattle.store_entries.specs.Stored.{entriesIn}
+use Rattle.lookup_nth.specs.Listed.{Listed}
+use Rattle.roundtrip.specs.Clauses.{meets, passing}
+use Rattle.roundtrip.specs.declared.clauses.Clause.the-variants.{NoParam, NotType, ClearName, ClearContent, ClearValue}
+use Rattle.roundtrip.proofs.CountPassing.{no-params, not-types, clear-names, clear-contents, clear-values}
+use Rattle.roundtrip.specs.Loss.{lost, none-lost, early, late}
+use Rattle.roundtrip.proofs.Lossless.{clause-holds, clause-fails, each-holds, each-fails, headed, headless}
+
+module _ (hs cs : Bytes) (headers contents : ℕ) (xs : List Header) (ys : List Entry) (lx : Listed layoutHeader xs hs headers)
+    (ly : Listed layoutEntry ys cs contents) where
+  -- clauses 1 to 4
+  module _ (body : Bytes) (bare : ℕ) (text : Bool) (named : ℕ) (be : bare ≡ passing (meets NoParam) (entriesIn headers hs)) (te : text ≡ isUtf8 body)
+      (ne : named ≡ passing (meets NotType) (entriesIn contents cs)) where
+    bare-is : bare ≡ passing noParam xs
+    bare-is = be ∙ no-params xs hs headers lx
+
+    named-is : named ≡ passing notType ys
+    named-is = ne ∙ not-types ys cs contents ly
+
+    pub no-header : headers ≡ 0 → lost 1 0 ≡ early xs ys body none-lost
+    unfolding early
+    no-header z = sym (clause-fails (lost 1 0) _ (headless xs headers (lx .entries) z))
+
+    module _ (some : headers ≡ 0 → ⊥) where
+      pub a-param : bare < headers → lost 2 bare ≡ early xs ys body none-lost
+      unfolding early
+      a-param l = sym (clause-holds _ _ (headed xs headers (lx .entries) some) ∙ each-fails 2 noParam xs bare headers bare-is (lx .entries) _ l)
+
+      module _ (plain : headers ≤ bare) where
+        pub no-text : text ≡ false → lost 3 0 ≡ early xs ys body none-lost
+        unfolding early
+        no-text f =
+            sym (clause-holds _ _ (headed xs headers (lx .entries) some)
+            ∙ each-holds 2 noParam xs bare headers bare-is (lx .entries) _ plain
+            ∙ clause-fails _ _ (sym te ∙ f))
+
+        module _ (good : text ≡ true) where
+          pub a-type : named < contents → lost 4 named ≡ early xs ys body none-lost
+          unfolding early
+          a-type l =
+              sym (clause-holds _ _ (headed xs headers (lx .entries) some)
+              ∙ each-holds 2 noParam xs bare headers bare-is (lx .entries) _ plain
+              ∙ clause-holds _ _ (sym te ∙ good)
+              ∙ each-fails 4 notType ys named contents named-is (ly .entries) _ l)
+
+          pub early-none : contents ≤ named → none-lost ≡ early xs ys body none-lost
+          unfolding early
+          early-none l =
+              sym (clause-holds _ _ (headed xs headers (lx .entries) some)
+              ∙ each-holds 2 noParam xs bare headers bare-is (lx .entries) _ plain
+              ∙ clause-holds _ _ (sym te ∙ good)
+              ∙ each-holds 4 notType ys named contents named-is (ly .entries) _ l)
+
+  -- clauses 5 to 8
+  module _ (type : Bytes) (names others : ℕ) (clear : Bool) (values : ℕ) (ne : names ≡ passing (meets ClearName) (entriesIn headers hs))
+      (oe : others ≡ passing (meets ClearContent) (entriesIn contents cs)) (ce : clear ≡ clearEnds isWhite type)
+      (ve : values ≡ passing (meets ClearValue) (entriesIn headers hs)) where
+    names-is : names ≡ passing clearName xs
+    names-is = ne ∙ clear-names xs hs headers lx
+
+    others-is : others ≡ passing clearContent ys
+    others-is = oe ∙ clear-contents ys cs contents ly
+
+    values-is : values ≡ passing clearValue xs
+    values-is = ve ∙ clear-values xs hs headers lx
+
+    pub a-name : names < headers → lost 5 names ≡ late xs ys type
+    unfolding late
+    a-name l = sym (each-fails 5 clearName xs names headers names-is (lx .entries) _ l)
+
+    module _ (named : headers ≤ names) where
+      pub a-content : others < contents → lost 6 others ≡ late xs ys type
+      unfolding late
+      a-content l =
+          sym (each-holds 5 clearName xs names headers names-is (lx .entries) _ named ∙ each-fails 6 clearContent ys others contents others-is (ly .entries) _ l)
+
+      module _ (plain : contents ≤ others) where
+        pub the-type : clear ≡ false → lost 7 0 ≡ late xs ys type
+        unfolding late
+        the-type f =
+            sym (each-holds 5 clearName xs names headers names-is (lx .entries) _ named
+            ∙ each-holds 6 clearContent ys others contents others-is (ly .entries) _ plain
+            ∙ clause-fails _ _ (sym ce ∙ f))
+
+        module _ (good : clear ≡ true) where
+          pub a-value : values < headers → lost 8 values ≡ late xs ys type
+          unfolding late
+          a-value l =
+              sym (each-holds 5 clearName xs names headers names-is (lx .entries) _ named
+              ∙ each-holds 6 clearContent ys others contents others-is (ly .entries) _ plain
+              ∙ clause-holds _ _ (sym ce ∙ good)
+              ∙ each-fails 8 clearValue xs values headers values-is (lx .entries) _ l)
+
+          pub late-none : headers ≤ values → none-lost ≡ late xs ys type
+          unfolding late
+          late-none l =
+              sym (each-holds 5 clearName xs names headers names-is (lx .entries) _ named
+              ∙ each-holds 6 clearContent ys others contents others-is (ly .entries) _ plain
+              ∙ clause-holds _ _ (sym ce ∙ good)
+              ∙ each-holds 8 clearValue xs values headers values-is (lx .entries) _ l)

@@ -1,0 +1,5 @@
+pub mod Halves
+pub mod Lossless
+pub mod CountPassing
+pub mod LossStores
+pub mod Walking

@@ -1,0 +1,61 @@
+-- `roundtrip::clauses::meets` meets its contract. Each arm asks what its clause says of an entry. Assumes nothing.
+use Prim.Native.Nat.{ℕ}
+use mathlib.Core.Path.{ap, _∙_}
+use mathlib.Core.Bool.{not}
+use lib.Dec.{eqb}
+use borrow.Author.Needs.{needs}
+use Rattle.format.specs.Bytes.{ascii, sameLetters}
+use Rattle.format.specs.Characters.{isWhite, isLost, clearEnds}
+use Rattle.format.specs.Demand3.{notType, clearName, clearValue}
+use Rattle.store_entries.specs.Stored.{storedIn}
+use Rattle.store_entries.proofs.EntryShape.{within-numbers}
+use Rattle.format.proofs.Typed.{the}
+use Rattle.roundtrip.specs.Clauses.{meets}
+use Rattle.roundtrip.proofs.clauses.meets.Statement.{statement}
+use Rattle.roundtrip.proofs.clauses.meets.Tie as tie
+
+enum-told : tie.Need-enum-told
+enum-told c = search needs
+
+param-count-requires : tie.Need-param-count-requires
+param-count-requires c κs = within-numbers (the tie.Start (search) .args .s .now) (the tie.Start (search) .args .at) (the tie.Start (search) .pre)
+
+name-at-requires : tie.Need-name-at-requires
+name-at-requires c κs = the tie.Start (search) .pre
+
+name-at-requires-2 : tie.Need-name-at-requires-2
+name-at-requires-2 c κs = the tie.Start (search) .pre
+
+content-clear-requires : tie.Need-content-clear-requires
+content-clear-requires c κs = the tie.Start (search) .pre
+
+value-at-requires : tie.Need-value-at-requires
+value-at-requires c κs = the tie.Start (search) .pre
+
+returns : tie.Need-returns
+unfolding meets storedIn
+returns c = rw (c .before .enum-told .given .1) (ap (λ (n : ℕ). eqb n 0) (c .param-count .ensures .0))
+
+returns-2 : tie.Need-returns-2
+unfolding meets notType storedIn
+returns-2 c =
+    rw (the tie.After-enum-told2 (search) .enum-told2 .given .1) (ap not (c .is-type .ensures ∙ ap (sameLetters (ascii "Content-type")) (c .before .name-at .ensures)))
+
+returns-3 : tie.Need-returns-3
+unfolding meets clearName storedIn
+returns-3 c = rw (the tie.After-enum-told3 (search) .enum-told3 .given .1) (c .clear-ends .ensures ∙ ap (clearEnds isWhite) (c .before .name-at2 .ensures))
+
+returns-4 : tie.Need-returns-4
+unfolding meets
+returns-4 c = rw (c .before .enum-told4 .given .1) (c .content-clear .ensures)
+
+returns-5 : tie.Need-returns-5
+unfolding meets clearValue storedIn
+returns-5 c = rw (the tie.After-enum-told5 (search) .enum-told5 .given .1) (c .clear-of-lost .ensures ∙ ap (clearEnds isLost) (c .before .value-at .ensures))
+
+pub meets-spec : {M : Type 1} → statement M
+meets-spec =
+    tie.close
+    (tie.spec enum-told param-count-requires (λ c. search needs) name-at-requires (λ c κs. search needs) (λ c. search needs) name-at-requires-2
+    (λ c κs. search needs) (λ c. search needs) content-clear-requires (λ c. search needs) value-at-requires (λ c κs. search needs) returns returns-2
+    returns-3 returns-4 returns-5)

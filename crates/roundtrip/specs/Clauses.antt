@@ -1,0 +1,33 @@
+-- The clauses of demand 3's condition that are asked of each header or of each content header, and the first that fails one. What a clause
+-- asks is crates/format/specs/Demand3.antt's; here it is asked of an entry as it is stored. Assumes nothing.
+use Prim.Native.Nat.{ℕ, suc}
+use mathlib.Core.Bool.{Bool}
+use mathlib.Core.List.{List, [], _∷_}
+use lib.Dec.{eqb}
+use Rattle.format.specs.Bytes.{if_then_else_}
+use Rattle.format.specs.Message.{Entry, Header}
+use Rattle.format.specs.Demand3.{notType, clearName, clearContent, clearValue}
+use Rattle.store_entries.specs.Stored.{Stored}
+use Rattle.roundtrip.specs.declared.clauses.Clause.{Clause}
+use Rattle.roundtrip.specs.declared.clauses.Clause.the-variants.{NoParam, NotType, ClearName, ClearContent, ClearValue}
+
+-- name and value of an entry as it is stored
+abbrev pub asEntry : Stored → Entry
+asEntry e = record { name = e .name; value = e .value }
+
+-- the same as those of a header
+abbrev pub asHeader : Stored → Header
+asHeader e = record { name = e .name; value = e .value; params = [] }
+
+-- the entry meets the clause
+unfoldable pub meets : Clause → Stored → Bool
+meets NoParam e = eqb (e .params) 0
+meets NotType e = notType (asEntry e)
+meets ClearName e = clearName (asHeader e)
+meets ClearContent e = clearContent (asEntry e)
+meets ClearValue e = clearValue (asHeader e)
+
+-- how many stand before the first that fails the test; all where none does
+unfoldable pub passing : {A : Type 0} → (A → Bool) → List A → ℕ
+passing p [] = 0
+passing p (x ∷ xs) = if p x then suc (passing p xs) else 0

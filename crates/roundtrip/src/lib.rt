@@ -1,0 +1,116 @@
+// Which messages come back whole (demand 3): yes or no for what is held, and where no, which clause of the condition fails first and for
+// which entry. Any record and any bytes may be lent.
+
+mod clauses;
+
+use crate::clauses::Clause;
+use crate::clauses::count_passing;
+use format::CpimMessage;
+use store_check::message_holds;
+use unicode::ends::clear_ends;
+use utf8::is_utf8;
+ghost use mathlib.Core.Path.{_≡_};
+ghost use mathlib.Core.Bool.{true};
+ghost use mathlib.Core.List.{List};
+ghost use mathlib.Core.Option.{Option};
+ghost use Rattle.format.specs.Message.{Entry, Header, Message};
+ghost use Rattle.format.specs.Layout.{layoutEntry, layoutHeader, Held};
+ghost use Rattle.format.specs.Lending.{bothLent};
+ghost use Rattle.store_entries.specs.Stored.{shapedAll};
+ghost use Rattle.lookup_nth.specs.Listed.{Listed};
+ghost use Rattle.roundtrip.specs.Loss.{none-lost, early, late, lossHeld, wholeHeld, ReadsBack};
+
+// The clause that fails first, by its number in specs/Loss.antt, 0 where none does and 9 where nothing is held; and the number of the
+// header or content header that it fails for, counting from 0, 0 where it speaks of none.
+#[repr(C)]
+pub struct Loss {
+    pub clause: usize,
+    pub entry: usize,
+}
+
+fn lost(clause: usize, entry: usize) -> Loss
+    ensures { λ r. ⌜ r ≡ record { clause = clause; entry = entry } ⌝ }
+{
+    Loss {
+        clause: clause,
+        entry: entry,
+    }
+}
+
+// Clauses 1 to 4.
+fn early_loss(hs: &[u8], headers: usize, cs: &[u8], contents: usize, body: &[u8]) -> Loss
+    requires { ⌜ (shapedAll headers (now hs) ≡ true) × (shapedAll contents (now cs) ≡ true) ⌝ }
+    ensures { λ r. ⌜ ((xs : List Header) (ys : List Entry) → Listed layoutHeader xs (now (hs .entry)) headers → Listed layoutEntry ys (now (cs .entry)) contents → r ≡ early xs ys (now (body .entry)) none-lost) ⌝ }
+{
+    let bare = count_passing(Clause::NoParam, hs, headers);
+    let text = is_utf8(body);
+    let named = count_passing(Clause::NotType, cs, contents);
+    if headers == 0 {
+        return lost(1, 0);
+    }
+    if bare < headers {
+        return lost(2, bare);
+    }
+    if !text {
+        return lost(3, 0);
+    }
+    if named < contents {
+        return lost(4, named);
+    }
+    lost(0, 0)
+}
+
+// Clauses 5 to 8.
+fn late_loss(hs: &[u8], headers: usize, cs: &[u8], contents: usize, kind: &[u8]) -> Loss
+    requires { ⌜ (shapedAll headers (now hs) ≡ true) × (shapedAll contents (now cs) ≡ true) ⌝ }
+    ensures { λ r. ⌜ ((xs : List Header) (ys : List Entry) → Listed layoutHeader xs (now (hs .entry)) headers → Listed layoutEntry ys (now (cs .entry)) contents → r ≡ late xs ys (now (kind .entry))) ⌝ }
+{
+    let names = count_passing(Clause::ClearName, hs, headers);
+    let others = count_passing(Clause::ClearContent, cs, contents);
+    let clear = clear_ends(kind);
+    let values = count_passing(Clause::ClearValue, hs, headers);
+    if names < headers {
+        return lost(5, names);
+    }
+    if others < contents {
+        return lost(6, others);
+    }
+    if !clear {
+        return lost(7, 0);
+    }
+    if values < headers {
+        return lost(8, values);
+    }
+    lost(0, 0)
+}
+
+// What a message held loses on the way through its text.
+pub fn loss_of(m: CpimMessage, head: &[u8], body: &[u8]) -> Loss
+    ensures { λ r. ⌜ ((o : Option Message) → Held (bothLent m (now (head .entry)) (now (body .entry))) o → r ≡ lossHeld o) ⌝ }
+{
+    if !message_holds(m, head) {
+        return lost(9, 0);
+    }
+    if body.len() < m.bodylen {
+        return lost(9, 0);
+    }
+    let from = 256 + m.headerlen;
+    let to = from + m.contentlen;
+    let size = m.bodylen;
+    let typed = m.typelen;
+    let hs = &head[256..from];
+    let cs = &head[from..to];
+    let first = early_loss(hs, m.headers, cs, m.contents, &body[0..size]);
+    if first.clause != 0 {
+        return first;
+    }
+    late_loss(hs, m.headers, cs, m.contents, &head[0..typed])
+}
+
+// Whether reading its text, with room for it, gives the message held.
+pub fn comes_back(m: CpimMessage, head: &[u8], body: &[u8]) -> bool
+    ensures condition { λ r. ⌜ ((o : Option Message) → Held (bothLent m (now (head .entry)) (now (body .entry))) o → r ≡ wholeHeld o) ⌝ }
+    ensures theorem { λ r. ⌜ ReadsBack (bothLent m (now (head .entry)) (now (body .entry))) r ⌝ }
+{
+    loss_of(m, head, body).clause == 0
+}

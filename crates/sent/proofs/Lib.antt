@@ -1,3 +1,0 @@
-mod BegunWays
-mod Ways
-pub mod Trace

@@ -1,4 +1,0 @@
-pub mod Lines
-pub mod Put
-pub mod Telling
-pub mod Words

@@ -1,0 +1,9 @@
+pub mod ByName
+pub mod Layouts
+pub mod Passing
+pub mod GroupPlaces
+pub mod EntryRead
+pub mod Sequences
+pub mod EntryShape
+pub mod EntryWalk
+pub mod Zeros

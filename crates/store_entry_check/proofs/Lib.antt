@@ -1,0 +1,8 @@
+pub mod EntriesCheck
+pub mod HeadersCheck
+pub mod InTurn
+pub mod Light
+pub mod NameOrder
+pub mod LightPasses
+pub mod EntryTests
+pub mod CheckWalk

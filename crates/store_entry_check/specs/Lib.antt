@@ -1,0 +1,5 @@
+pub mod Fitting
+pub mod EntriesHold
+pub mod Kinds
+pub mod FromBytes
+pub mod Weights

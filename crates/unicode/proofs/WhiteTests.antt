@@ -1,0 +1,235 @@
+-- White space, control characters and code points as the code tests them. That a byte alone is white space is one test that
+-- computes over the 128 bytes; that white space has at most three bytes is one that computes over the 25 numbers. Assumes nothing.
+use Prim.Native.Nat.{ℕ, zero, suc, _+_, _*_, _%_, _≤_, _<_}
+use mathlib.Core.Path.{_≡_, refl, sym, ap, _∙_}
+use mathlib.Core.Bool.{Bool, true, false, not, _&&_, _||_, false≢true, and-false, and-true}
+use mathlib.Core.Logic.{⊎-elim}
+use mathlib.Core.List.{List, [], _∷_, append-nil}
+use native.Mathlib.Omega.{arith}
+use native.Mathlib.Numerals.{add-one}
+use lib.Dec.{leb, ltb, eqb}
+use lib.ListN.{length, take, drop, getD, length-take, drop-of-length-le}
+use lib.Seq.{drop-cons, take-length}
+use borrow.Author.Tests.{leb-true, lt-leb, ltb-true, ltb-false, lt-ltb, le-ltb, eqb-true, eqb-false, eq-eqb, ne-eqb}
+use Rattle.format.specs.Bytes.{Bytes, all, any}
+use Rattle.format.specs.Characters.{_to_, within, wellFormed, chars, codePoint, whiteSpace, isWhite, isControl, isControlCode}
+use Rattle.format.proofs.Lists.{bcase, all-head, all-tail}
+use Rattle.format.proofs.Rulesets.{tests}
+use Rattle.format.proofs.Characters.Table.{within-intro, within-below}
+use Rattle.format.proofs.Characters.Chars.{chars-whole, ascii-whole, whole-single}
+use Rattle.format.proofs.Characters.Shapes.{Shape, one, two, three, four, shape}
+use Rattle.characters.specs.Lengths.{subpartLen, charLen}
+use Rattle.characters.proofs.CharEnds.{subpart-chars, subpart-inside, char-whole}
+
+-- a list by its elements
+pub list-zero : (g : Bytes) → length g ≡ 0 → g ≡ []
+list-zero [] h = refl
+list-zero (a ∷ g) h = absurd (omega arith)
+
+pub list-one : (g : Bytes) → length g ≡ 1 → g ≡ getD g 0 0 ∷ []
+list-one [] h = absurd (omega arith)
+list-one (a ∷ g) h = ap (λ (t : Bytes). a ∷ t) (list-zero g (omega arith))
+
+list-two : (g : Bytes) → length g ≡ 2 → g ≡ getD g 0 0 ∷ getD g 1 0 ∷ []
+list-two [] h = absurd (omega arith)
+list-two (a ∷ g) h = ap (λ (t : Bytes). a ∷ t) (list-one g (omega arith))
+
+list-three : (g : Bytes) → length g ≡ 3 → g ≡ getD g 0 0 ∷ getD g 1 0 ∷ getD g 2 0 ∷ []
+list-three [] h = absurd (omega arith)
+list-three (a ∷ g) h = ap (λ (t : Bytes). a ∷ t) (list-two g (omega arith))
+
+list-four : (g : Bytes) → length g ≡ 4 → g ≡ getD g 0 0 ∷ getD g 1 0 ∷ getD g 2 0 ∷ getD g 3 0 ∷ []
+list-four [] h = absurd (omega arith)
+list-four (a ∷ g) h = ap (λ (t : Bytes). a ∷ t) (list-three g (omega arith))
+
+pub point-one : (g : Bytes) → length g ≡ 1 → codePoint g ≡ getD g 0 0
+unfolding codePoint
+point-one g h = ap codePoint (list-one g h)
+
+pub point-two : (g : Bytes) → length g ≡ 2 → codePoint g ≡ (getD g 0 0 % 32) * 64 + getD g 1 0 % 64
+unfolding codePoint
+point-two g h = ap codePoint (list-two g h)
+
+pub point-three : (g : Bytes) → length g ≡ 3 → codePoint g ≡ (getD g 0 0 % 16) * 4096 + ((getD g 1 0 % 64) * 64 + getD g 2 0 % 64)
+unfolding codePoint
+point-three g h = ap codePoint (list-three g h)
+
+pub point-four :
+    (g : Bytes) → length g ≡ 4
+    → codePoint g ≡ (getD g 0 0 % 8) * 262144 + ((getD g 1 0 % 64) * 4096 + ((getD g 2 0 % 64) * 64 + getD g 3 0 % 64))
+unfolding codePoint
+point-four g h = ap codePoint (list-four g h)
+
+pub point-other :
+    (g : Bytes) → (length g ≡ 1 → ⊥) → (length g ≡ 2 → ⊥) → (length g ≡ 3 → ⊥) → (length g ≡ 4 → ⊥) → codePoint g ≡ 0
+unfolding codePoint
+point-other [] h i j k = refl
+point-other (a ∷ []) h i j k = absurd (h refl)
+point-other (a ∷ b ∷ []) h i j k = absurd (i refl)
+point-other (a ∷ b ∷ c ∷ []) h i j k = absurd (j refl)
+point-other (a ∷ b ∷ c ∷ d ∷ []) h i j k = absurd (k refl)
+point-other (a ∷ b ∷ c ∷ d ∷ e ∷ t) h i j k = refl
+
+-- a whole character is all that a text of it alone begins with
+whole-len : (g : Bytes) → wellFormed g ≡ true → charLen g ≡ length g
+unfolding charLen
+whole-len [] h = absurd (false≢true (sym none ∙ h))
+  where
+    none : wellFormed [] ≡ false
+    none = unfold wellFormed in refl
+whole-len (b ∷ t) h =
+    let g = b ∷ t in
+    let e : take (subpartLen g) g ∷ chars (drop (subpartLen g) g) ≡ g ∷ chars [] =
+    sym (subpart-chars g (omega arith)) ∙ ap chars (sym (append-nil g)) ∙ chars-whole g [] h in
+    let f : take (subpartLen g) g ≡ g = cc in
+    let l : subpartLen g ≡ length g = omega (arith, ap length f, length-take (subpartLen g) g, subpart-inside g) in
+    rw (f, h) l
+
+-- the bytes are one character where the character that they begin with is all of them
+pub whole-tested : (g : Bytes) (n : ℕ) → n ≡ charLen g → (n ≡ 0 → ⊥) → eqb n (length g) ≡ wellFormed g
+whole-tested g n e h =
+    ⊎-elim
+    (λ t.
+    let l : charLen g ≡ length g = sym e ∙ eqb-true n (length g) t in
+    t ∙ sym (ap wellFormed (sym (take-length g) ∙ rw (← l) refl) ∙ char-whole g (omega arith) .0))
+    (λ f. f ∙ sym (⊎-elim (λ w. absurd (eqb-false n (length g) f (e ∙ whole-len g w))) (λ w. w) (bcase (wellFormed g))))
+    (bcase (eqb n (length g)))
+
+pub whole-none : (g : Bytes) (n : ℕ) → n ≡ charLen g → n ≡ 0 → false ≡ wellFormed g
+whole-none g n e h =
+    sym (⊎-elim (λ w. absurd (nonempty g w (sym (whole-len g w) ∙ sym e ∙ h))) (λ w. w) (bcase (wellFormed g)))
+  where
+    nonempty : (g : Bytes) → wellFormed g ≡ true → length g ≡ 0 → ⊥
+    nonempty [] w l = unfold wellFormed in false≢true w
+    nonempty (b ∷ t) w l = omega arith
+
+-- the search through a list of numbers
+pub any-hit : (n : ℕ) (xs : List ℕ) (i : ℕ) → i < length xs → n ≡ getD xs i 0 → any (eqb n) (drop i xs) ≡ true
+unfolding any
+any-hit n xs i h e = rw (drop-cons xs i 0 h, eq-eqb n (getD xs i 0) e) refl
+
+pub any-miss : (n : ℕ) (xs : List ℕ) (i : ℕ) → i < length xs → (n ≡ getD xs i 0 → ⊥) → any (eqb n) (drop i xs) ≡ any (eqb n) (drop (i + 1) xs)
+unfolding any
+any-miss n xs i h e = rw (add-one i, drop-cons xs i 0 h, ne-eqb n (getD xs i 0) e) refl
+
+pub any-end : (n : ℕ) (xs : List ℕ) (i : ℕ) → length xs ≤ i → any (eqb n) (drop i xs) ≡ false
+unfolding any
+any-end n xs i h = rw (drop-of-length-le xs h) refl
+
+-- both tests pass or both fail
+agree : Bool → Bool → Bool
+agree true b = b
+agree false b = not b
+
+agree-same : (a b : Bool) → agree a b ≡ true → a ≡ b
+unfolding agree
+agree-same true true h = refl
+agree-same true false h = absurd (false≢true h)
+agree-same false true h = absurd (false≢true h)
+agree-same false false h = refl
+
+-- a test passes at every number below n
+everyBelow : (ℕ → Bool) → ℕ → Bool
+everyBelow p zero = true
+everyBelow p (suc n) = p n && everyBelow p n
+
+at-below : (p : ℕ → Bool) (n b : ℕ) → everyBelow p n ≡ true → b < n → p b ≡ true
+unfolding everyBelow
+at-below p zero b h l = absurd (omega arith)
+at-below p (suc n) b h l =
+    ⊎-elim
+    (λ e. rw (eqb-true b n e) ((simp tests at h) .0))
+    (λ e. at-below p n b ((simp tests at h) .1) (omega (arith, eqb-false b n e)))
+    (bcase (eqb b n))
+
+abbrev byteWhite : ℕ → Bool
+byteWhite b = within b (0x09 to 0x0D) || eqb b 0x20
+
+ascii-white : (b : ℕ) → b < 128 → any (eqb b) whiteSpace ≡ byteWhite b
+unfolding any agree everyBelow
+ascii-white b h = agree-same (any (eqb b) whiteSpace) (byteWhite b) (at-below (λ b. agree (any (eqb b) whiteSpace) (byteWhite b)) 128 b refl h)
+
+white-low : (b : ℕ) → b < 128 → isWhite (b ∷ []) ≡ byteWhite b
+unfolding isWhite codePoint
+white-low b h = rw (ascii-whole b h) (ascii-white b h)
+
+white-high : (b : ℕ) → 128 ≤ b → isWhite (b ∷ []) ≡ false
+unfolding isWhite
+white-high b h =
+    ⊎-elim (λ w. absurd (omega (arith, whole-single b w))) (λ w. rw w refl) (bcase (wellFormed (b ∷ [])))
+
+white-byte : (b : ℕ) → isWhite (b ∷ []) ≡ byteWhite b
+white-byte b =
+    ⊎-elim
+    (λ l. white-low b (ltb-true b 128 l))
+    (λ g.
+    let h = ltb-false b 128 g in
+    white-high b h ∙ sym (rw (lt-leb b 0x0D (omega arith), and-false (leb 0x09 b), ne-eqb b 0x20 (λ e. omega arith)) refl))
+    (bcase (ltb b 128))
+
+-- the three answers of the test of a byte
+pub byte-below : (b : ℕ) → b < 0x09 → false ≡ isWhite (b ∷ [])
+byte-below b h = sym (white-byte b ∙ rw (lt-leb 0x09 b h, ne-eqb b 0x20 (λ e. omega arith)) refl)
+
+pub byte-among : (b : ℕ) → 0x09 ≤ b → b < 0x0E → true ≡ isWhite (b ∷ [])
+byte-among b h l = sym (white-byte b ∙ rw (within-intro b (0x09 to 0x0D) h (omega arith)) refl)
+
+pub byte-above : (b : ℕ) → 0x0E ≤ b → eqb b 0x20 ≡ isWhite (b ∷ [])
+byte-above b h = sym (white-byte b ∙ rw (lt-leb b 0x0D (omega arith), and-false (leb 0x09 b)) refl)
+
+-- and of the test of a character
+pub white-listed : (g : Bytes) → any (eqb (codePoint g)) whiteSpace ≡ true → wellFormed g ≡ isWhite g
+unfolding isWhite
+white-listed g h = rw h (sym (and-true (wellFormed g)))
+
+pub white-unlisted : (g : Bytes) → any (eqb (codePoint g)) whiteSpace ≡ false → false ≡ isWhite g
+unfolding isWhite
+white-unlisted g h = rw h (sym (and-false (wellFormed g)))
+
+pub control-low : (g : Bytes) → codePoint g < 0x20 → wellFormed g ≡ isControl g
+unfolding isControl isControlCode
+control-low g h = rw (lt-ltb (codePoint g) 0x20 h) (sym (and-true (wellFormed g)))
+
+pub control-high : (g : Bytes) → 0x7F ≤ codePoint g → codePoint g ≤ 0x9F → wellFormed g ≡ isControl g
+unfolding isControl isControlCode
+control-high g h i =
+    rw (le-ltb (codePoint g) 0x20 (omega arith), within-intro (codePoint g) (0x7F to 0x9F) h i) (sym (and-true (wellFormed g)))
+
+pub control-between : (g : Bytes) → 0x20 ≤ codePoint g → codePoint g < 0x7F → false ≡ isControl g
+unfolding isControl isControlCode
+control-between g h i =
+    rw (le-ltb (codePoint g) 0x20 h, within-below (codePoint g) (0x7F to 0x9F) i) (sym (and-false (wellFormed g)))
+
+pub control-above : (g : Bytes) → 0x9F < codePoint g → false ≡ isControl g
+unfolding isControl isControlCode
+control-above g h =
+    rw (le-ltb (codePoint g) 0x20 (omega arith), lt-leb (codePoint g) 0x9F h, and-false (leb 0x7F (codePoint g))) (sym (and-false (wellFormed g)))
+
+-- what is among numbers up to m is at most m
+any-most : (n m : ℕ) (xs : List ℕ) → all (λ x. leb x m) xs ≡ true → any (eqb n) xs ≡ true → n ≤ m
+unfolding all any
+any-most n m [] a h = absurd (false≢true h)
+any-most n m (x ∷ xs) a h =
+    ⊎-elim
+    (λ e. omega (arith, eqb-true n x e, leb-true x m (all-head (λ x. leb x m) x xs a)))
+    (λ e. any-most n m xs (all-tail (λ x. leb x m) x xs a) (rw e at h))
+    (bcase (eqb n x))
+
+white-most : (n : ℕ) → any (eqb n) whiteSpace ≡ true → n ≤ 0x3000
+unfolding all
+white-most n h = any-most n 0x3000 whiteSpace refl h
+
+-- a white-space character has one byte, two or three
+pub white-short : (g : Bytes) → isWhite g ≡ true → length g ≤ 3
+unfolding isWhite
+white-short g h = go (shape g ((simp tests at h) .0)) (white-most (codePoint g) ((simp tests at h) .1))
+  where
+    go : {g : Bytes} → Shape g → codePoint g ≤ 0x3000 → length g ≤ 3
+    go (one a x) l = omega arith
+    go (two a b x y) l = omega arith
+    go (three a b c x y z u v) l = omega arith
+    go (four a b c d x y z u v) l = absurd (omega arith)
+
+pub white-whole : (g : Bytes) → isWhite g ≡ true → wellFormed g ≡ true
+unfolding isWhite
+white-whole g h = (simp tests at h) .0

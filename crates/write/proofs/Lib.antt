@@ -1,0 +1,2 @@
+pub mod HeldSlices
+pub mod WriteExits

@@ -1,0 +1,3 @@
+mod WriterAtExit
+mod Again
+mod Rounds

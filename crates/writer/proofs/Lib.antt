@@ -1,3 +1,0 @@
-mod Held
-mod Again
-mod Rounds
