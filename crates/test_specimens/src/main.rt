@@ -242,7 +242,7 @@ fn back(name: &[u8], m: CpimMessage, head: &[u8], body: &[u8]) {
     read(name, first(&out, n.length));
 }
 
-fn no_header() {
+fn headerless() {
     let mut head = [0u8; 1024];
     let mut body = [0u8; 2];
     let m = message::new(b"text/plain", b"Hi", &mut head, &mut body);
@@ -316,7 +316,7 @@ fn escapes() {
 }
 
 fn messages() {
-    no_header();
+    headerless();
     with_lang();
     with_value(b"P8", b"\t");
     with_value(b"P9", b" ");

@@ -80,7 +80,7 @@ fn functions() {
 #[test]
 fn records() {
     let header = plain(&without_comments(&file("cpim/cpim.h")));
-    let sources = ["format/src/lib.rt", "text_parts/src/lib.rt", "whole/src/lib.rt", "places/src/spots.rt"].map(file);
+    let sources = ["format/src/lib.rt", "read_split/src/lib.rt", "roundtrip/src/lib.rt", "lookup_places/src/spots.rt"].map(file);
     let mut records = 0;
     for source in &sources {
         for record in source.split("#[repr(C)]\npub struct ").skip(1) {

@@ -6,7 +6,6 @@ use Rattle.format.specs.Bytes.{Bytes, CRLF, texts}
 use Rattle.format.specs.Writing.{typeLine, contentLine, ended}
 use Rattle.octets.proofs.Written.{Written, written-none, written-length, written-all}
 use Rattle.store_entry_check.specs.FromBytes.{entriesFrom}
-use Rattle.format.proofs.Typed.{the}
 use Rattle.write_parts.proofs.LineParts.{part-room, part-put}
 use Rattle.write_parts.proofs.ContentPart.{opening, type-parts}
 use Rattle.write_parts.proofs.put_content_part_at.Statement.{statement}
