@@ -1,4 +1,5 @@
--- The equations of `callsIn`: a whole call in front and the calls behind it, or none. Nothing after them looks at the count. Assumes nothing.
+-- The equations of `callsIn`: a whole call in front and the calls behind it, or none. Nothing after them looks at the count. Assumes
+-- nothing.
 use Prim.Native.Nat.{ℕ, zero, suc, _+_, _≤_, _<_}
 use mathlib.Core.Path.{_≡_, refl, sym, ap, _∙_}
 use mathlib.Core.Bool.{true, false}
@@ -39,7 +40,6 @@ unfolding complete sizeOf bothWhole bothSize headerWhole headerSize
 size-fits (one c) t h = omega (arith, size-within t 0 h)
 size-fits (two c) t h = size-within t (argumentSize t) ((simp tests at h) .1)
 size-fits header t h =
-    let store = drop 12 (behind t) in
     let w = (simp tests at h) .1 .1 in
     let e = drop-drop 12 (argumentSize t) t in
     omega (arith, size-within t (argumentSize t + 12) (rw (sym e) w), ap argumentSize e)

@@ -1,2 +1,2 @@
 pub mod Coding
-pub mod CharEnds
+pub mod Utf8End

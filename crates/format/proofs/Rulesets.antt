@@ -1,5 +1,5 @@
--- Two sets of rules for `simp`: `tests` takes tests apart that are joined by `&&`, `checks` the steps of a `do` block. Each rule says what an
--- equation amounts to, and serves both ways:
+-- Two sets of rules for `simp`: `tests` takes tests apart that are joined by `&&`, `checks` the steps of a `do` block. Each rule says
+-- what an equation amounts to, and serves both ways:
 --     simp tests at h                   what h says, by place: .0, .1 .0, .1 .1
 --     omega (arith, simp tests at h)    a fact about numbers, or a record of such facts
 --     search (simp tests at h)          a record of what h says

@@ -1,4 +1,4 @@
--- The ways out of `nth_header`. The headers of a name stand together, and the n-th behind the first n of them. Assumes nothing.
+-- The ways out of `header_place`. The headers of a name stand together, and the n-th behind the first n of them. Assumes nothing.
 use Prim.Native.Nat.{ℕ, _+_, _-_, _≤_, _<_}
 use mathlib.Core.Path.{_≡_, refl, sym, ap, _∙_, subst}
 use mathlib.Core.Bool.{true, false}

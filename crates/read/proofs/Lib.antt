@@ -1,4 +1,4 @@
 pub mod LinesLoop
 pub mod Outcomes
-pub mod SectionLine
+pub mod HeaderSectionLine
 pub mod ReadStores

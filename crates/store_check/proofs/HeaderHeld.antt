@@ -25,7 +25,7 @@ use Rattle.store_check.specs.Holding.{sizesHold, valuePart, paramsPart, 
 use Rattle.store_entry_check.specs.FromBytes.{entriesFrom}
 use Rattle.store_check.specs.Decoding.{headerIn}
 use Rattle.store_entry_check.specs.declared.kinds.Kind.the-variants.{Param}
-use Rattle.store_entry_check.proofs.EntriesCheck.{params-listed, params-hold}
+use Rattle.store_entry_check.proofs.EntriesListed.{params-listed, params-hold}
 use Rattle.store_check.proofs.HeldParts.{alone-parts}
 
 -- What the sizes say.

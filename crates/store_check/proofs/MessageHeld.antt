@@ -26,8 +26,8 @@ use Rattle.store_check.specs.Holding.{typeHolds, numbersHold, typePart, 
 use Rattle.store_entry_check.specs.FromBytes.{entriesFrom, headersFrom}
 use Rattle.store_check.specs.Decoding.{messageIn}
 use Rattle.store_entry_check.specs.declared.kinds.Kind.the-variants.{Content}
-use Rattle.store_entry_check.proofs.EntriesCheck.{contents-listed, contents-hold}
-use Rattle.store_entry_check.proofs.HeadersCheck.{headers-listed, headers-hold}
+use Rattle.store_entry_check.proofs.EntriesListed.{contents-listed, contents-hold}
+use Rattle.store_entry_check.proofs.HeadersListed.{headers-listed, headers-hold}
 use Rattle.store_check.proofs.HeldParts.{padded, held-parts}
 
 -- What the numbers say.

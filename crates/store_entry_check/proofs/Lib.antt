@@ -1,5 +1,5 @@
-pub mod EntriesCheck
-pub mod HeadersCheck
+pub mod EntriesListed
+pub mod HeadersListed
 pub mod InTurn
 pub mod Light
 pub mod NameOrder

@@ -4,15 +4,15 @@
 // The list, the file `stdin`, is records one behind another: a size in four bytes, low one first, and so many bytes. A record is its kind
 // in one byte (1 a text read; 2 a text read and written; 3 a list of calls begun by a text read, and written; 4 one begun by `new`, and
 // written), then eight parts, each a length in four bytes, low one first, and so many bytes: the text, or the type; the body for `new`;
-// the script of calls (crates/calls_script/specs/Script.antt); the refusal's number and the carried one, four bytes each; the type, the entries
-// of the head store, and the body of the message held; its text. The last four are empty where the beginning is refused. The source made
-// the list: rust/beside/src/bin/record says how.
+// the script of calls (crates/calls_script/specs/Script.antt); the refusal's number and the carried one, four bytes each; the type, the
+// entries of the head store, and the body of the message held; its text. The last four are empty where the beginning is refused. The
+// source made the list: rust/beside/src/bin/record says how.
 
-use calls_roundtrip::begun::new_and_run;
-use calls_roundtrip::begun::read_and_run;
 use calls_script::argument_at;
 use calls_script::argument_end;
 use calls_script::number_at;
+use calls_write::begun::new_and_run;
+use calls_write::begun::read_and_run;
 use format::Answer;
 use format::CpimMessage;
 use io::print_decimal;

@@ -14,7 +14,7 @@ use Rattle.format.specs.Characters.{chars, wellFormed, isWhite, isControl, isLo
 use Rattle.format.proofs.Lists.{bcase, clash, and-left}
 use Rattle.format.proofs.Characters.Chars.{chars-nil, chars-whole}
 use Rattle.format.proofs.Characters.Trim.{trim-clear, trim-full}
-use Rattle.characters.proofs.CharEnds.{subpart-chars}
+use Rattle.characters.proofs.Utf8End.{subpart-chars}
 use Rattle.unicode.proofs.WhiteTests.{white-short, white-whole}
 use Rattle.unicode.proofs.LastChar.{chars-last}
 use Rattle.unicode.proofs.ShortEnds.{first-fails, last-fails}

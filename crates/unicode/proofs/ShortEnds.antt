@@ -13,7 +13,7 @@ use Rattle.format.specs.Characters.{chars, flat, wellFormed, lastOf}
 use Rattle.format.proofs.Lists.{bcase, clash}
 use Rattle.format.proofs.Characters.Chars.{flat-chars}
 use Rattle.characters.specs.Lengths.{subpartLen}
-use Rattle.characters.proofs.CharEnds.{subpart-inside, subpart-some}
+use Rattle.characters.proofs.Utf8End.{subpart-inside, subpart-some}
 
 -- A text ends with the last of its characters.
 record Ending (u g : Bytes) : Type 0 where

@@ -13,7 +13,7 @@ use Rattle.format.proofs.Lists.{rest-is}
 use Rattle.format.proofs.Characters.Chars.{flat-chars, chars-nil, chars-whole, chars-ascii, ascii-whole}
 use Rattle.format.proofs.Characters.Trim.{back-clear}
 use Rattle.characters.specs.Lengths.{subpartLen}
-use Rattle.characters.proofs.CharEnds.{subpart-chars}
+use Rattle.characters.proofs.Utf8End.{subpart-chars}
 use Rattle.unicode.proofs.WhiteTests.{white-short, white-whole}
 use Rattle.unicode.specs.Trimming.{WhiteFront, WhiteBack}
 use Rattle.unicode.proofs.LastChar.{chars-last}

@@ -19,7 +19,7 @@ use Rattle.format.proofs.Characters.Table.{within-intro, within-below}
 use Rattle.format.proofs.Characters.Chars.{chars-whole, ascii-whole, whole-single}
 use Rattle.format.proofs.Characters.Shapes.{Shape, one, two, three, four, shape}
 use Rattle.characters.specs.Lengths.{subpartLen, charLen}
-use Rattle.characters.proofs.CharEnds.{subpart-chars, subpart-inside, char-whole}
+use Rattle.characters.proofs.Utf8End.{subpart-chars, subpart-inside, char-whole}
 
 -- a list by its elements
 pub list-zero : (g : Bytes) → length g ≡ 0 → g ≡ []

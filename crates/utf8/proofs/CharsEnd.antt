@@ -17,7 +17,7 @@ use Rattle.format.proofs.Lists.{below}
 use Rattle.format.proofs.Rulesets.{tests}
 use Rattle.format.proofs.Characters.Chars.{ascii-whole, chars-ascii}
 use Rattle.characters.specs.Lengths.{subpartLen, charLen, utf8End, Passed}
-use Rattle.characters.proofs.CharEnds.{subpart-chars, subpart-inside, char-whole, char-ill, stays, passed-on, char-step, end-ill}
+use Rattle.characters.proofs.Utf8End.{subpart-chars, subpart-inside, char-whole, char-ill, stays, passed-on, char-step, end-ill}
 use Rattle.utf8.specs.Blocks.{blocksEnd}
 use Rattle.utf8.proofs.Passed.{blocks-end-passed}
 use Rattle.utf8.specs.CharsEnd.{partEnd, goneOver, charsEnd}

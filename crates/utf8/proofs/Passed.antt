@@ -14,7 +14,7 @@ use Rattle.format.proofs.Lists.{bcase, below}
 use Rattle.format.proofs.Rulesets.{tests}
 use Rattle.format.proofs.Characters.Chars.{utf8-ascii-text}
 use Rattle.characters.specs.Lengths.{Passed}
-use Rattle.characters.proofs.CharEnds.{passed, stays, passed-on}
+use Rattle.characters.proofs.Utf8End.{passed, stays, passed-on}
 use Rattle.utf8.specs.Sound.{Sound, SoundAt, allSound}
 use Rattle.utf8.proofs.Sound.{all-from}
 use Rattle.utf8.specs.Blocks.{Settled, isSettled, wholeEnd, soundEnd, blockEnd, blocksFrom, blocksEnd}

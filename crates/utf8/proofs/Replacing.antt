@@ -14,7 +14,7 @@ use Rattle.format.proofs.Lists.{bcase, texts-append}
 use Rattle.format.proofs.Characters.Chars.{chars-nil, chars-append}
 use Rattle.format.proofs.Characters.Replaced.{replaced-same}
 use Rattle.characters.specs.Lengths.{subpartLen, wholeLen, utf8End}
-use Rattle.characters.proofs.CharEnds.{whole-cons, subpart-chars, subpart-some, subpart-inside, cut-at, end-past, end-utf8, end-inside}
+use Rattle.characters.proofs.Utf8End.{whole-cons, subpart-chars, subpart-some, subpart-inside, cut-at, end-past, end-utf8, end-inside}
 
 pub replaced-nil : replaced [] ≡ []
 unfolding replaced texts

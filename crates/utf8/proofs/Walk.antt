@@ -13,7 +13,7 @@ use Rattle.format.specs.Characters.{wellFormed}
 use Rattle.format.proofs.Lists.{below}
 use Rattle.format.proofs.Characters.Chars.{ascii-whole, utf8-whole}
 use Rattle.characters.specs.Lengths.{utf8End, Passed}
-use Rattle.characters.proofs.CharEnds.{passed}
+use Rattle.characters.proofs.Utf8End.{passed}
 use Rattle.utf8.specs.Sound.{SoundAt}
 use Rattle.utf8.specs.Blocks.{Settled}
 use Rattle.utf8.proofs.WellFormed.{two, three, four}

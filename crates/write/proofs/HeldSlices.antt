@@ -13,7 +13,7 @@ use Rattle.store_check.specs.Holding.{messageHolds}
 use Rattle.store_entry_check.specs.FromBytes.{entriesFrom, headersFrom}
 use Rattle.store_check.specs.Decoding.{messageIn}
 use Rattle.store_entry_check.specs.declared.kinds.Kind.the-variants.{Content}
-use Rattle.store_entry_check.proofs.EntriesCheck.{holds-shaped}
+use Rattle.store_entry_check.proofs.EntriesListed.{holds-shaped}
 use Rattle.write_parts.proofs.HeldText.{headersAt, contentsAt, headers-are, contents-are, numbered, contents-hold}
 use Rattle.write_cursor.specs.StoredMessage.{messageOf}
 

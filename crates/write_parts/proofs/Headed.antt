@@ -10,7 +10,7 @@ use Rattle.format.proofs.Rulesets.{tests}
 use Rattle.store_entries.specs.Stored.{Stored, sizeIn, storedIn}
 use Rattle.store_entry_check.specs.EntriesHold.{fits, tailHolds, headersHold}
 use Rattle.store_entry_check.specs.declared.kinds.Kind.the-variants.{Header}
-use Rattle.store_entry_check.proofs.EntriesCheck.{holds-shaped, holds-walked}
+use Rattle.store_entry_check.proofs.EntriesListed.{holds-shaped, holds-walked}
 use Rattle.write_parts.proofs.StoreWalk.{left, Passing, left-start, left-next, passing-start, passing-on}
 
 pub record Headed (s : Bytes) (count at i : ℕ) : Type 0 where

@@ -13,7 +13,7 @@ use Rattle.store_entries.specs.Stored.{paramCount, nameIn, valueIn, tailIn, sto
 use Rattle.store_entry_check.specs.EntriesHold.{tailHolds}
 use Rattle.store_entry_check.specs.FromBytes.{entryFrom, entriesFrom, headerFrom}
 use Rattle.store_entry_check.specs.declared.kinds.Kind.the-variants.{Param}
-use Rattle.store_entry_check.proofs.EntriesCheck.{holds-shaped}
+use Rattle.store_entry_check.proofs.EntriesListed.{holds-shaped}
 
 -- One part, of a text that is written so far.
 module _ {whole d out : Bytes} {at to : ℕ} {rest : Bytes} (w : Written whole d out at to rest) (h : at + length whole ≤ length d)

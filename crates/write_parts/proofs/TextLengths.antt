@@ -23,7 +23,7 @@ use Rattle.store_entry_check.specs.Kinds.{valueCheck}
 use Rattle.store_entry_check.specs.EntriesHold.{fits, entriesHold, tailHolds}
 use Rattle.store_entry_check.specs.FromBytes.{entriesFrom, headerFrom}
 use Rattle.store_entry_check.specs.declared.kinds.Kind.the-variants as kind
-use Rattle.store_entry_check.proofs.EntriesCheck.{fits-parts, params-listed, contents-listed}
+use Rattle.store_entry_check.proofs.EntriesListed.{fits-parts, params-listed, contents-listed}
 
 -- a parameter, and a content header's line
 param-length : (e : Entry) → length (paramText e) + 14 ≡ length (layoutEntry e)

@@ -36,14 +36,14 @@ add-number-at c =
     let start : tie.Start = search in
     let s = start .args .script .now in
     let at = start .args .at in
-    omega (arith, record-within s at _ (name-whole s at (start .pre)) (c .before .argument-end .ensures) (start .pre))
+    omega (arith, record-within s at _ (name-whole s at (start .pre)) (the tie.After-argument-end (search) .argument-end .ensures) (start .pre))
 
 number-at-requires-2 : tie.Need-number-at-requires-2
 number-at-requires-2 c κs =
     let start : tie.Start = search in
     let s = start .args .script .now in
     let at = start .args .at in
-    omega (arith, record-within s at _ (name-whole s at (start .pre)) (c .before .argument-end .ensures) (start .pre))
+    omega (arith, record-within s at _ (name-whole s at (start .pre)) (the tie.After-argument-end (search) .argument-end .ensures) (start .pre))
 
 add-number-at-2 : tie.Need-add-number-at-2
 add-number-at-2 c =

@@ -20,7 +20,7 @@ returns c =
     body-run (drop at s) _ _ _ _ _ _ _ (start .args .number) (the tie.Then1 (search) .if1 .taken) (the tie.After-argument-at (search) .argument-at .ensures) (the tie.After-set-body (search) .set-body .ensures)
 
 one-text-requires : tie.Need-one-text-requires
-one-text-requires c κs = (the tie.Start (search) .pre .0, c .before .if1 .left)
+one-text-requires c κs = (the tie.Start (search) .pre .0, the tie.Else1 (search) .if1 .left)
 
 returns-2 : tie.Need-returns-2
 returns-2 c =

@@ -37,7 +37,7 @@ returns c =
     let a : tie.At-loop Inv-loop μ-loop = search in
     let start : tie.Start Inv-loop μ-loop = search in
     let s = start .args .script .now in
-    let run = leads-end _ _ _ _ (a .loop .inv .3) (calls-stop s (a .loop .at) _ (c .before .call-end .ensures) (c .if1 .taken)) in
+    let run = leads-end _ _ _ _ (a .loop .inv .3) (calls-stop s (a .loop .at) _ (the (tie.After-call-end Inv-loop μ-loop) (search) .call-end .ensures) (c .if1 .taken)) in
     (run, λ k h. run-held _ _ k _ h run)
 
 run-call-requires : tie.Need-run-call-requires Inv-loop μ-loop

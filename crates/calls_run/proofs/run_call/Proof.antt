@@ -30,14 +30,12 @@ two-call-requires c κs =
     let at = start .args .at in
     let f = formOf (getD s at 0) in
     let t = drop (at + 1) s in
-    let kind = sym (the tie.After-kind-of (search) .kind-of .ensures) ∙ c .before .if2 .taken in
+    let kind = sym (the tie.After-kind-of (search) .kind-of .ensures) ∙ the tie.Then2 (search) .if2 .taken in
     (kind, two-whole t f kind (start .pre .1))
 
 returns-2 : tie.Need-returns-2
 returns-2 c =
     let start : tie.Start = search in
-    let s = start .args .script .now in
-    let at = start .args .at in
     the tie.After-two-call (search) .two-call .ensures (start .args .body .now)
 
 header-call-requires : tie.Need-header-call-requires
@@ -48,7 +46,7 @@ header-call-requires c κs =
     let f = formOf (getD s at 0) in
     let t = drop (at + 1) s in
     let kind = the tie.After-kind-of (search) .kind-of .ensures in
-    let e = header-left t f (λ e. the tie.Else1 (search) .if1 .left (kind ∙ e)) (λ e. c .before .if2 .left (kind ∙ e)) (start .pre .1) in
+    let e = header-left t f (λ e. the tie.Else1 (search) .if1 .left (kind ∙ e)) (λ e. the tie.Else2 (search) .if2 .left (kind ∙ e)) (start .pre .1) in
     header-parts t f e (start .pre .1)
 
 returns-3 : tie.Need-returns-3

@@ -2,6 +2,7 @@
 use Prim.Native.Nat.{_-_}
 use native.Mathlib.Omega.{arith}
 use borrow.Author.Needs.{needs}
+use Rattle.format.proofs.Typed.{the}
 use Rattle.calls_script.proofs.ArgumentPlaces.{whole-within, argument-part}
 use Rattle.calls_script.proofs.argument_at.Statement.{statement}
 use Rattle.calls_script.proofs.argument_at.Tie as tie
@@ -39,7 +40,7 @@ returns c =
     let start : tie.Start = search in
     let s = start .args .s .now in
     let at = start .args .at in
-    argument-part s at (c .before .number-at .result) (c .before .number-at .ensures .0)
+    argument-part s at (the tie.After-number-at (search) .number-at .result) (the tie.After-number-at (search) .number-at .ensures .0)
 
 pub argument-at-spec : {M : Type 1} → statement M
 argument-at-spec =

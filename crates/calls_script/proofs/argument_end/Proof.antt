@@ -2,6 +2,7 @@
 use Prim.Native.Nat.{_-_}
 use native.Mathlib.Omega.{arith}
 use borrow.Author.Needs.{needs}
+use Rattle.format.proofs.Typed.{the}
 use Rattle.calls_script.proofs.ArgumentPlaces.{short-end, cut-end, whole-end}
 use Rattle.calls_script.proofs.argument_end.Statement.{statement}
 use Rattle.calls_script.proofs.argument_end.Tie as tie
@@ -18,14 +19,14 @@ returns-2 c =
     let start : tie.Start = search in
     let s = start .args .s .now in
     let at = start .args .at in
-    cut-end s at (c .before .number-at .result) (c .before .number-at .ensures .0) (omega arith) (omega arith)
+    cut-end s at (the tie.After-number-at (search) .number-at .result) (the tie.After-number-at (search) .number-at .ensures .0) (omega arith) (omega arith)
 
 returns-3 : tie.Need-returns-3
 returns-3 c =
     let start : tie.Start = search in
     let s = start .args .s .now in
     let at = start .args .at in
-    whole-end s at (c .before .number-at .result) (c .before .number-at .ensures .0) (omega arith) (omega arith)
+    whole-end s at (the tie.After-number-at (search) .number-at .result) (the tie.After-number-at (search) .number-at .ensures .0) (omega arith) (omega arith)
 
 pub argument-end-spec : {M : Type 1} → statement M
 argument-end-spec =

@@ -24,7 +24,7 @@ returns-2 c =
     let at = start .args .at in
     let f = formOf (getD s at 0) in
     let t = drop (at + 1) s in
-    one-end t (at + 1) _ f (sym (the tie.After-kind-of (search) .kind-of .ensures) ∙ c .before .if2 .taken) (c .argument-end .ensures)
+    one-end t (at + 1) _ f (sym (the tie.After-kind-of (search) .kind-of .ensures) ∙ the tie.Then2 (search) .if2 .taken) (c .argument-end .ensures)
 
 returns-3 : tie.Need-returns-3
 returns-3 c =
@@ -33,7 +33,7 @@ returns-3 c =
     let at = start .args .at in
     let f = formOf (getD s at 0) in
     let t = drop (at + 1) s in
-    two-end t (at + 1) _ f (sym (the tie.After-kind-of (search) .kind-of .ensures) ∙ c .before .if3 .taken) (c .two-end .ensures)
+    two-end t (at + 1) _ f (sym (the tie.After-kind-of (search) .kind-of .ensures) ∙ the tie.Then3 (search) .if3 .taken) (c .two-end .ensures)
 
 returns-4 : tie.Need-returns-4
 returns-4 c =
@@ -42,7 +42,7 @@ returns-4 c =
     let at = start .args .at in
     let f = formOf (getD s at 0) in
     let t = drop (at + 1) s in
-    three-end t (at + 1) _ f (sym (the tie.After-kind-of (search) .kind-of .ensures) ∙ c .before .if4 .taken) (c .header-end .ensures)
+    three-end t (at + 1) _ f (sym (the tie.After-kind-of (search) .kind-of .ensures) ∙ the tie.Then4 (search) .if4 .taken) (c .header-end .ensures)
 
 returns-5 : tie.Need-returns-5
 returns-5 c =
@@ -52,7 +52,7 @@ returns-5 c =
     let f = formOf (getD s at 0) in
     let t = drop (at + 1) s in
     let kind = the tie.After-kind-of (search) .kind-of .ensures in
-    other-end t _ f (λ e. the tie.Else2 (search) .if2 .left (kind ∙ e)) (λ e. c .before .if3 .left (kind ∙ e)) (λ e. c .if4 .left (kind ∙ e))
+    other-end t _ f (λ e. the tie.Else2 (search) .if2 .left (kind ∙ e)) (λ e. the tie.Else3 (search) .if3 .left (kind ∙ e)) (λ e. c .if4 .left (kind ∙ e))
 
 pub call-end-spec : {M : Type 1} → statement M
 call-end-spec =

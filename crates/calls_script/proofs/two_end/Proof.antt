@@ -13,15 +13,15 @@ returns c =
     let start : tie.Start = search in
     let s = start .args .s .now in
     let at = start .args .at in
-    both-cut s at (none-end _ _ _ (size-positive s at) (c .before .argument-end .ensures) (c .if1 .taken))
+    both-cut s at (none-end _ _ _ (size-positive s at) (the tie.After-argument-end (search) .argument-end .ensures) (c .if1 .taken))
 
 argument-end-requires-2 : tie.Need-argument-end-requires-2
 argument-end-requires-2 c κs =
     let start : tie.Start = search in
     let s = start .args .s .now in
     let at = start .args .at in
-    let next = c .before .argument-end .result in
-    let first = some-end _ _ next (c .before .argument-end .ensures) (c .if1 .left) in
+    let next = the tie.After-argument-end (search) .argument-end .result in
+    let first = some-end _ _ next (the tie.After-argument-end (search) .argument-end .ensures) (c .if1 .left) in
     next-within s at next (first .0) (first .1)
 
 returns-2 : tie.Need-returns-2
@@ -30,7 +30,7 @@ returns-2 c =
     let s = start .args .s .now in
     let at = start .args .at in
     let next = the tie.After-argument-end (search) .argument-end .result in
-    let first = some-end _ _ next (the tie.After-argument-end (search) .argument-end .ensures) (c .before .if1 .left) in
+    let first = some-end _ _ next (the tie.After-argument-end (search) .argument-end .ensures) (the tie.Else1 (search) .if1 .left) in
     both-end s at next (first .0) (first .1) _ (c .argument-end2 .ensures)
 
 pub two-end-spec : {M : Type 1} → statement M

@@ -20,13 +20,13 @@ returns-2 c = char-ascii (the tie.Start (search) .args .s .now) (the tie.Start (
 returns-3 : tie.Need-returns-3
 returns-3 c =
     let z : tie.Start = search in
-    char-none (z .args .s .now) (z .args .at) (c .before .row-of .result) (omega arith) (row-picks (getD (z .args .s .now) (z .args .at) 0) (c .before .row-of .result) (c .before .row-of .ensures)) (omega arith)
+    char-none (z .args .s .now) (z .args .at) (the tie.After-row-of (search) .row-of .result) (omega arith) (row-picks (getD (z .args .s .now) (z .args .at) 0) (the tie.After-row-of (search) .row-of .result) (the tie.After-row-of (search) .row-of .ensures)) (omega arith)
 
 returns-4 : tie.Need-returns-4
 returns-4 c =
     let z : tie.Start = search in
-    let h : 4 ≡ c .before .trailing-in .result + 1 = omega arith in
-    h ∙ char-whole (z .args .s .now) (z .args .at) (the tie.After-row-of (search) .row-of .result) (omega arith) (row-picks (getD (z .args .s .now) (z .args .at) 0) (the tie.After-row-of (search) .row-of .result) (the tie.After-row-of (search) .row-of .ensures)) (z .args .rows .now) (c .before .trailing-in .result) (z .pre) (omega arith) (c .before .trailing-in .ensures .1) (omega (arith, row-short (the tie.After-row-of (search) .row-of .result) (omega arith)))
+    let h : 4 ≡ the tie.After-trailing-in (search) .trailing-in .result + 1 = omega arith in
+    h ∙ char-whole (z .args .s .now) (z .args .at) (the tie.After-row-of (search) .row-of .result) (omega arith) (row-picks (getD (z .args .s .now) (z .args .at) 0) (the tie.After-row-of (search) .row-of .result) (the tie.After-row-of (search) .row-of .ensures)) (z .args .rows .now) (the tie.After-trailing-in (search) .trailing-in .result) (z .pre) (omega arith) (the tie.After-trailing-in (search) .trailing-in .ensures .1) (omega (arith, row-short (the tie.After-row-of (search) .row-of .result) (omega arith)))
 
 returns-5 : tie.Need-returns-5
 returns-5 c =

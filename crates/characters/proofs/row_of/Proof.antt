@@ -27,7 +27,7 @@ returns c =
     let z : tie.Start Inv-loop μ-loop = search in
     let loop = the (tie.At-loop Inv-loop μ-loop) (search) .loop in
     let e =
-    row-hit (loop .i) (z .args .b) (omega arith) (sym (row-lead (z .args .rows .now) (loop .i) (z .args .b) (z .pre) (omega arith)) ∙ sym (c .before .leads .ensures) ∙ c .if1 .taken) in
+    row-hit (loop .i) (z .args .b) (omega arith) (sym (row-lead (z .args .rows .now) (loop .i) (z .args .b) (z .pre) (omega arith)) ∙ sym (the (tie.After-leads Inv-loop μ-loop) (search) .leads .ensures) ∙ c .if1 .taken) in
     omega (arith, e, loop .inv .1)
 
 loop-again : tie.Need-loop-again Inv-loop μ-loop
@@ -35,13 +35,14 @@ loop-again c =
     let z : tie.Start Inv-loop μ-loop = search in
     let loop = the (tie.At-loop Inv-loop μ-loop) (search) .loop in
     let e =
-    row-miss (loop .i) (z .args .b) (omega arith) (sym (row-lead (z .args .rows .now) (loop .i) (z .args .b) (z .pre) (omega arith)) ∙ sym (c .before .leads .ensures) ∙ c .if1 .left) in
+    row-miss (loop .i) (z .args .b) (omega arith) (sym (row-lead (z .args .rows .now) (loop .i) (z .args .b) (z .pre) (omega arith)) ∙ sym (the (tie.After-leads Inv-loop μ-loop) (search) .leads .ensures) ∙ c .if1 .left) in
     (omega arith, omega (arith, e, loop .inv .1))
 
 returns-2 : tie.Need-returns-2 Inv-loop μ-loop
 returns-2 c =
-    let e : c .before .loop .i ≡ 9 = omega arith in
-    omega (arith, rw e at (c .before .loop .inv .1), row-none (the (tie.Start Inv-loop μ-loop) (search) .args .b))
+    let at-loop : tie.At-loop Inv-loop μ-loop = search in
+    let e : at-loop .loop .i ≡ 9 = omega arith in
+    omega (arith, rw e at (at-loop .loop .inv .1), row-none (the (tie.Start Inv-loop μ-loop) (search) .args .b))
 
 pub row-of-spec : {M : Type 1} → statement M
 row-of-spec =

@@ -16,7 +16,7 @@ returns c =
 returns-2 : tie.Need-returns-2
 returns-2 c =
     let z : tie.Start = search in
-    subpart-none (z .args .s .now) (z .args .at) (c .before .row-of .result) (omega arith) (row-picks (getD (z .args .s .now) (z .args .at) 0) (c .before .row-of .result) (c .before .row-of .ensures)) (omega arith)
+    subpart-none (z .args .s .now) (z .args .at) (the tie.After-row-of (search) .row-of .result) (omega arith) (row-picks (getD (z .args .s .now) (z .args .at) 0) (the tie.After-row-of (search) .row-of .result) (the tie.After-row-of (search) .row-of .ensures)) (omega arith)
 
 returns-3 : tie.Need-returns-3
 returns-3 c =

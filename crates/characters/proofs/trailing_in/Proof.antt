@@ -49,7 +49,7 @@ loop-again c =
 returns-4 : tie.Need-returns-4 Inv-loop μ-loop
 returns-4 c = (
   omega arith,
-  omega (arith, c .before .loop .inv .1, ends-none (the (tie.Start Inv-loop μ-loop) (search) .args .t1) (c .before .loop .k * 2 + 2) (drop (the (tie.Start Inv-loop μ-loop) (search) .args .at + c .before .loop .k) (the (tie.Start Inv-loop μ-loop) (search) .args .s .now)) (omega arith)),
+  omega (arith, the (tie.At-loop Inv-loop μ-loop) (search) .loop .inv .1, ends-none (the (tie.Start Inv-loop μ-loop) (search) .args .t1) (the (tie.At-loop Inv-loop μ-loop) (search) .loop .k * 2 + 2) (drop (the (tie.Start Inv-loop μ-loop) (search) .args .at + the (tie.At-loop Inv-loop μ-loop) (search) .loop .k) (the (tie.Start Inv-loop μ-loop) (search) .args .s .now)) (omega arith)),
 )
 
 pub trailing-in-spec : {M : Type 1} → statement M

@@ -26,7 +26,7 @@ abbrev μ-loop : tie.MeasureT-loop
 
 copy-at-requires : tie.Need-copy-at-requires Inv-loop μ-loop
 copy-at-requires c κs =
-    omega (arith, ap length (bare-escape (the (tie.Start Inv-loop μ-loop) (search) .args .v .now) (sym (the (tie.After-bare-text Inv-loop μ-loop) (search) .bare-text .ensures) ∙ c .before .if1 .taken)))
+    omega (arith, ap length (bare-escape (the (tie.Start Inv-loop μ-loop) (search) .args .v .now) (sym (the (tie.After-bare-text Inv-loop μ-loop) (search) .bare-text .ensures) ∙ the (tie.Then1 Inv-loop μ-loop) (search) .if1 .taken)))
 
 -- the value is written as it is
 as-is : (c : tie.After-slice-known2 Inv-loop μ-loop) → escape (the (tie.Start Inv-loop μ-loop) (search) .args .v .now) ≡ the (tie.Start Inv-loop μ-loop) (search) .args .v .now
@@ -48,7 +48,7 @@ put-form-requires : tie.Need-put-form-requires Inv-loop μ-loop
 put-form-requires c κs =
     let at-loop : tie.At-loop Inv-loop μ-loop = search in
     let v = the (tie.Start Inv-loop μ-loop) (search) .args .v .now in
-    let f = c .before .form-at in
+    let f = the (tie.After-form-at Inv-loop μ-loop) (search) .form-at in
     omega (arith, turn-length v (at-loop .loop .i) (f .result) (omega arith) (f .ensures))
 
 add-to : tie.Need-add-to Inv-loop μ-loop
@@ -70,6 +70,7 @@ loop-less c = omega (arith, takes-some (the (tie.After-form-at Inv-loop μ-loop)
 
 loop-again : tie.Need-loop-again Inv-loop μ-loop
 loop-again c =
+    let at-width : tie.After-width Inv-loop μ-loop = search in
     let at-loop : tie.At-loop Inv-loop μ-loop = search in
     let v = the (tie.Start Inv-loop μ-loop) (search) .args .v .now in
     let i = at-loop .loop .i in
@@ -78,7 +79,7 @@ loop-again c =
     let f = the (tie.After-form-at Inv-loop μ-loop) (search) .form-at in
     let put = the (tie.After-put-form Inv-loop μ-loop) (search) .put-form in
     let l = turn-length v i (f .result) (omega arith) (f .ensures) in
-    rw (c .takes .ensures, c .before .width .ensures) (
+    rw (c .takes .ensures, at-width .width .ensures) (
       turn-within v i (f .result) (omega arith) (f .ensures),
       omega arith,
       ap (λ (d : Bytes). pasted (to + widthForm (f .result)) (escape (drop (i + takesForm (f .result)) v)) d) (put .ensures)
@@ -92,7 +93,7 @@ loop-again c =
 returns-2 : tie.Need-returns-2 Inv-loop μ-loop
 returns-2 c =
     let v = the (tie.Start Inv-loop μ-loop) (search) .args .v .now in
-    let l = c .before .loop in
+    let l = the (tie.At-loop Inv-loop μ-loop) (search) .loop in
     let e = escape-end v (l .i) (omega arith) in
     (omega (arith, ap length e), sym (pasted-nil (l .to) (l .out)) ∙ ap (λ (t : Bytes). pasted (l .to) t (l .out)) (sym e) ∙ l .inv .2)
 

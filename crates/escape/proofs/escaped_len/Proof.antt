@@ -19,7 +19,7 @@ abbrev μ-loop : tie.MeasureT-loop
 μ-loop v n₀ i₀ n i = length v - i
 
 returns : tie.Need-returns Inv-loop μ-loop
-returns c = sym (ap length (bare-escape (the (tie.Start Inv-loop μ-loop) (search) .args .v .now) (sym (c .before .bare-text .ensures) ∙ c .if1 .taken)))
+returns c = sym (ap length (bare-escape (the (tie.Start Inv-loop μ-loop) (search) .args .v .now) (sym (the (tie.After-bare-text Inv-loop μ-loop) (search) .bare-text .ensures) ∙ c .if1 .taken)))
 
 loop-holds : tie.Need-loop-holds Inv-loop μ-loop
 loop-holds c = omega arith
@@ -28,7 +28,7 @@ add-n : tie.Need-add-n Inv-loop μ-loop
 add-n c =
     let at-loop : tie.At-loop Inv-loop μ-loop = search in
     let v = the (tie.Start Inv-loop μ-loop) (search) .args .v .now in
-    let f = c .before .form-at in
+    let f = the (tie.After-form-at Inv-loop μ-loop) (search) .form-at in
     omega (arith, turn-length v (at-loop .loop .i) (f .result) (omega arith) (f .ensures), escape-length v, c .width .ensures)
 
 add-i : tie.Need-add-i Inv-loop μ-loop
@@ -43,11 +43,12 @@ loop-less c = omega (arith, takes-some (the (tie.After-form-at Inv-loop μ-loop)
 
 loop-again : tie.Need-loop-again Inv-loop μ-loop
 loop-again c =
+    let at-width : tie.After-width Inv-loop μ-loop = search in
     let at-loop : tie.At-loop Inv-loop μ-loop = search in
     let v = the (tie.Start Inv-loop μ-loop) (search) .args .v .now in
     let i = at-loop .loop .i in
     let f = the (tie.After-form-at Inv-loop μ-loop) (search) .form-at in
-    rw (c .takes .ensures, c .before .width .ensures) (
+    rw (c .takes .ensures, at-width .width .ensures) (
       turn-within v i (f .result) (omega arith) (f .ensures),
       omega (arith, turn-length v i (f .result) (omega arith) (f .ensures)),
     )
@@ -55,7 +56,7 @@ loop-again c =
 returns-2 : tie.Need-returns-2 Inv-loop μ-loop
 returns-2 c =
     let v = the (tie.Start Inv-loop μ-loop) (search) .args .v .now in
-    omega (arith, ap length (escape-end v (c .before .loop .i) (omega arith)))
+    omega (arith, ap length (escape-end v (the (tie.At-loop Inv-loop μ-loop) (search) .loop .i) (omega arith)))
 
 pub escaped-len-spec : {M : Type 1} → statement M
 escaped-len-spec =

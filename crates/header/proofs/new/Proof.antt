@@ -20,7 +20,7 @@ returns c =
     let value = args .value .now in
     let store = args .store .now in
     made value store _ _
-    (handed-on emptyHeader store _ _ (utf8 value) _ (c .no-header .ensures) (text-fails value (sym (the tie.After-is-utf8 (search) .is-utf8 .ensures) ∙ not-true _ (c .before .if1 .taken))) (λ z. omega (arith, z)))
+    (handed-on emptyHeader store _ _ (utf8 value) _ (c .no-header .ensures) (text-fails value (sym (the tie.After-is-utf8 (search) .is-utf8 .ensures) ∙ not-true _ (the tie.Then1 (search) .if1 .taken))) (λ z. omega (arith, z)))
 
 returns-2 : tie.Need-returns-2
 returns-2 c =
@@ -29,7 +29,7 @@ returns-2 c =
     let store = args .store .now in
     made value store _ _
     (does-passed (aloneIn emptyHeader store) _ _ (utf8 value) _ (text-passes value (sym (the tie.After-is-utf8 (search) .is-utf8 .ensures) ∙ not-false _ (the tie.Else1 (search) .if1 .left)))
-    (handed-on emptyHeader store _ _ (headerValue value) _ (c .no-header2 .ensures) (the tie.After-validate-cpim-header-value (search) .validate-cpim-header-value .ensures) (c .before .if2 .taken)))
+    (handed-on emptyHeader store _ _ (headerValue value) _ (c .no-header2 .ensures) (the tie.After-validate-cpim-header-value (search) .validate-cpim-header-value .ensures) (the tie.Then2 (search) .if2 .taken)))
 
 add-size : tie.Need-add-size
 add-size c =

@@ -35,7 +35,7 @@ returns c =
     let name = args .name .now in
     let value = args .value .now in
     λ k held. subst (DoesAlone (aloneIn h store) _ _) (sym (set-steps name value k (length store)))
-    (handed-on h store _ _ (paramName name) _ (c .header-refused .ensures) (validate-param-name-before-params-of (search) .validate-param-name .ensures) (c .before .if1 .taken))
+    (handed-on h store _ _ (paramName name) _ (c .header-refused .ensures) (validate-param-name-before-params-of (search) .validate-param-name .ensures) (the tie.Then1 (search) .if1 .taken))
 
 returns-2 : tie.Need-returns-2
 returns-2 c =
@@ -47,7 +47,7 @@ returns-2 c =
     let n = zero-passes (paramName name) _ (validate-param-name-before-params-of (search) .validate-param-name .ensures) (the tie.Else1 (search) .if1 .left) in
     λ k held. subst (DoesAlone (aloneIn h store) _ _) (sym (set-steps name value k (length store)))
     (does-passed (aloneIn h store) _ _ (paramName name) _ n
-    (handed-on h store _ _ (paramValue value) _ (c .header-refused2 .ensures) (the tie.After-validate-param-value (search) .validate-param-value .ensures) (c .before .if2 .taken)))
+    (handed-on h store _ _ (paramValue value) _ (c .header-refused2 .ensures) (the tie.After-validate-param-value (search) .validate-param-value .ensures) (the tie.Then2 (search) .if2 .taken)))
 
 returns-3 : tie.Need-returns-3
 returns-3 c =
@@ -58,7 +58,7 @@ returns-3 c =
     let value = start .args .value .now in
     let within = bounds h store (start .pre) in
     let n = zero-passes (paramName name) _ (the tie.After-validate-param-name (search) .validate-param-name .ensures) (the tie.Else1 (search) .if1 .left) in
-    let v = zero-passes (paramValue value) _ (the tie.After-validate-param-value (search) .validate-param-value .ensures) (c .before .if2 .left) in
+    let v = zero-passes (paramValue value) _ (the tie.After-validate-param-value (search) .validate-param-value .ensures) (the tie.Else2 (search) .if2 .left) in
     λ k held. subst (DoesAlone (aloneIn h store) _ _) (sym (set-steps name value k (length store)))
     (does-passed (aloneIn h store) _ _ (paramName name) _ n
     (does-passed (aloneIn h store) _ _ (paramValue value) _ v

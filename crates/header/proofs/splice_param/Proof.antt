@@ -32,7 +32,7 @@ returns c =
     let args = the tie.Start (search) .args in
     λ k l g t held parted. handed-back (args .h) (args .store .now) _ _ _ _ (c .header-refused .ensures)
     (param-put (args .h) (args .h) (args .store .now) _ _ k held (args .name .now) (args .value .now) (args .at) (args .old) (args .many)
-    l g t parted (the tie.After-replace (search) .replace .ensures .0) (the tie.After-replace (search) .replace .ensures .1) (λ _. refl) (λ z. absurd (c .before .if1 .taken z)))
+    l g t parted (the tie.After-replace (search) .replace .ensures .0) (the tie.After-replace (search) .replace .ensures .1) (λ _. refl) (λ z. absurd (the tie.Then1 (search) .if1 .taken z)))
 
 sub-t13 : tie.Need-sub-t13
 sub-t13 c = omega (arith, the tie.Start (search) .pre .1 .0 .1)

@@ -20,7 +20,7 @@ returns-2 c =
     let name = args .name .now in
     let value = args .value .now in
     not-texts name value (aloneIn (args .h) (args .store .now)) _ _
-    (sym (the tie.After-header-holds (search) .header-holds .ensures) ∙ not-false _ (c .before .if1 .left))
+    (sym (the tie.After-header-holds (search) .header-holds .ensures) ∙ not-false _ (the tie.Else1 (search) .if1 .left))
     (sym (both-texts name value _ _ (the tie.After-is-utf8 (search) .is-utf8 .ensures) (the tie.After-is-utf82 (search) .is-utf82 .ensures)) ∙ not-true _ (c .if2 .taken)) refl refl
 
 set-param-held-requires : tie.Need-set-param-held-requires

@@ -13,7 +13,7 @@ use Rattle.leaf_exports.proofs.leaves_trim.Tie as tie
 copy-at-requires : tie.Need-copy-at-requires
 copy-at-requires c κs =
     let s : Bytes = the tie.Start (search) .args .s .now in
-    omega (arith, ap length (c .before .trim .ensures), trim-shorter isWhite s)
+    omega (arith, ap length (the tie.After-trim (search) .trim .ensures), trim-shorter isWhite s)
 
 returns : tie.Need-returns
 returns c =

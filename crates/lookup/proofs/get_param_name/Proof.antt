@@ -12,7 +12,7 @@ use Rattle.lookup.proofs.get_param_name.Tie as tie
 
 nth-name-requires : tie.Need-nth-name-requires
 nth-name-requires c κs =
-    let listed = c .before .params-named .ensures in
+    let listed = the tie.After-params-named (search) .params-named .ensures in
     let args = the tie.Start (search) .args in
     let held = held-total (headLent (args .m) (args .head .now)) in
     entries-shaped (paramsOf (nthHeader (held .0) (args .name .now) (args .k))) _ _ (listed (held .0) (held .1))

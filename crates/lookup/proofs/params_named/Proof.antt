@@ -11,7 +11,7 @@ use Rattle.lookup.proofs.params_named.Tie as tie
 
 nth-params-requires : tie.Need-nth-params-requires
 nth-params-requires c κs =
-    let listed = c .before .headers-named .ensures in
+    let listed = the tie.After-headers-named (search) .headers-named .ensures in
     let args = the tie.Start (search) .args in
     let held = held-total (headLent (args .m) (args .head .now)) in
     headers-shaped (headersNamed (held .0) (args .name .now)) _ _ (listed (held .0) (held .1))

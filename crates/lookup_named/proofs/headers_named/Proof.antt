@@ -15,10 +15,10 @@ use Rattle.lookup_named.proofs.headers_named.Tie as tie
 
 -- a message is held, and the name is UTF-8
 holds : (c : tie.Else1) → messageHolds (the tie.Start (search) .args .m) (the tie.Start (search) .args .head .now) ≡ true
-holds c = sym (c .before .message-holds .ensures) ∙ not-false _ (c .if1 .left)
+holds c = sym (the tie.After-message-holds (search) .message-holds .ensures) ∙ not-false _ (c .if1 .left)
 
 utf8 : (c : tie.Else2) → isUtf8 (the tie.Start (search) .args .name .now) ≡ true
-utf8 c = sym (c .before .is-utf8 .ensures) ∙ not-false _ (c .if2 .left)
+utf8 c = sym (the tie.After-is-utf8 (search) .is-utf8 .ensures) ∙ not-false _ (c .if2 .left)
 
 within : (c : tie.After-headers-of)
     → 256 + (c .headers-of .result .at + c .headers-of .result .size) ≤ length (the tie.Start (search) .args .head .now)
@@ -30,13 +30,13 @@ returns : tie.Need-returns
 returns c =
     let called : tie.After-message-holds = search in
     let args = the tie.Start (search) .args in
-    none-unheld (args .m) (args .head .now) (args .name .now) (sym (called .message-holds .ensures) ∙ not-true _ (c .before .if1 .taken))
+    none-unheld (args .m) (args .head .now) (args .name .now) (sym (called .message-holds .ensures) ∙ not-true _ (the tie.Then1 (search) .if1 .taken))
 
 returns-2 : tie.Need-returns-2
 returns-2 c =
     let called : tie.After-is-utf8 = search in
     let args = the tie.Start (search) .args in
-    λ o _. none-unnamed (args .name .now) (sym (called .is-utf8 .ensures) ∙ not-true _ (c .before .if2 .taken)) o
+    λ o _. none-unnamed (args .name .now) (sym (called .is-utf8 .ensures) ∙ not-true _ (the tie.Then2 (search) .if2 .taken)) o
 
 headers-of-requires : tie.Need-headers-of-requires
 headers-of-requires c κs = holds (search)

@@ -51,10 +51,11 @@ loop-less c = omega arith
 
 loop-again : tie.Need-loop-again Inv-loop μ-loop
 loop-again c =
+    let at-param-count : tie.After-param-count Inv-loop μ-loop = search in
     let at-loop : tie.At-loop Inv-loop μ-loop = search in
     let args = the (tie.Start Inv-loop μ-loop) (search) .args in
     let l = at-loop .loop in
-    let count = c .before .param-count in
+    let count = at-param-count .param-count in
     rw (c .entry-len .ensures .0) (counted-on (args .s .now) (args .count) (l .at) (l .i) (l .params) (l .inv) (omega arith) (count .result) (count .ensures .0) (count .ensures .1))
 
 returns : tie.Need-returns Inv-loop μ-loop

@@ -26,16 +26,17 @@ param-count-requires c κs =
 tail-at-requires : tie.Need-tail-at-requires
 tail-at-requires c κs =
     let start : tie.Start = search in
-    let placed = c .before .pass-first in
+    let placed = the tie.After-pass-first (search) .pass-first in
     place-shaped (start .args .s .now) (start .args .count) (start .args .n) (placed .result) (start .pre) (omega arith) (placed .ensures)
 
 returns-2 : tie.Need-returns-2
 unfolding storedIn
 returns-2 c =
+    let at-param-count : tie.After-param-count = search in
     let start : tie.Start = search in
     let placed = the tie.After-pass-first (search) .pass-first in
     rw (place-entry (start .args .s .now) (start .args .count) (start .args .n) (placed .result) (start .pre) (omega arith) (placed .ensures))
-    (record { entries = c .before .param-count .ensures .0; bytes = c .tail-at .ensures })
+    (record { entries = at-param-count .param-count .ensures .0; bytes = c .tail-at .ensures })
 
 pub nth-params-spec : {M : Type 1} → statement M
 nth-params-spec =

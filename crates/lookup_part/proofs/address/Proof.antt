@@ -16,18 +16,18 @@ use Rattle.lookup_part.proofs.address.Tie as tie
 abbrev rest : tie.Else1 → Bytes
 rest c =
     let v = the tie.Start (search) .args .value .now in
-    take (length v - (c .before .find-byte .result + 1)) (drop (c .before .find-byte .result + 1) v)
+    take (length v - (the tie.After-find-byte (search) .find-byte .result + 1)) (drop (the tie.After-find-byte (search) .find-byte .result + 1) v)
 
 -- the place of the `<` is within the value
-inside : (c : tie.Else1) → c .before .find-byte .result < length (the tie.Start (search) .args .value .now)
+inside : (c : tie.Else1) → the tie.After-find-byte (search) .find-byte .result < length (the tie.Start (search) .args .value .now)
 inside c =
     let v = the tie.Start (search) .args .value .now in
-    omega (arith, c .if1 .left, found-within less-sign v (c .before .find-byte .result) (c .before .find-byte .ensures))
+    omega (arith, c .if1 .left, found-within less-sign v (the tie.After-find-byte (search) .find-byte .result) (the tie.After-find-byte (search) .find-byte .ensures))
 
 -- what stands behind it
 behind : (c : tie.Else1) → address (the tie.Start (search) .args .value .now) ≡ closed (rest c)
 behind c =
-    opened (the tie.Start (search) .args .value .now) (c .before .find-byte .result) (c .before .find-byte .ensures) (inside c)
+    opened (the tie.Start (search) .args .value .now) (the tie.After-find-byte (search) .find-byte .result) (the tie.After-find-byte (search) .find-byte .ensures) (inside c)
 
 returns : tie.Need-returns
 returns c =

@@ -17,12 +17,12 @@ abbrev start : tie.Else1 → tie.Start
 start c = search
 
 holds : (c : tie.Else1) → messageHolds (start c .args .m) (start c .args .head .now) ≡ true
-holds c = sym (c .before .message-holds .ensures) ∙ not-false _ (c .if1 .left)
+holds c = sym (the tie.After-message-holds (search) .message-holds .ensures) ∙ not-false _ (c .if1 .left)
 
 returns : tie.Need-returns
 returns c =
     let args = the tie.Start (search) .args in
-    placed-unheld (args .m) (args .head .now) (args .out .now) (sym (c .before .message-holds .ensures) ∙ not-true _ (c .if1 .taken))
+    placed-unheld (args .m) (args .head .now) (args .out .now) (sym (the tie.After-message-holds (search) .message-holds .ensures) ∙ not-true _ (c .if1 .taken))
 
 row-count-requires : tie.Need-row-count-requires
 row-count-requires c κs = holds c

@@ -22,30 +22,30 @@ loop-holds c =
 
 -- the next entry is within the store, and its row within the output
 module _ (c : tie.In-loop Inv-loop μ-loop) where
-  numbers : c .before .loop .at + 16 ≤ length (the (tie.Start Inv-loop μ-loop) (search) .args .s .now)
+  numbers : the (tie.At-loop Inv-loop μ-loop) (search) .loop .at + 16 ≤ length (the (tie.Start Inv-loop μ-loop) (search) .args .s .now)
   numbers =
       let args = the (tie.Start Inv-loop μ-loop) (search) .args in
-      let l = c .before .loop in
+      let l = the (tie.At-loop Inv-loop μ-loop) (search) .loop in
       rowed-numbers (args .s .now) (args .out .now) (args .rows) (l .out) (l .at) (l .i) (l .inv) (omega arith)
 
-  front : c .before .loop .at + frontIn (drop (c .before .loop .at) (the (tie.Start Inv-loop μ-loop) (search) .args .s .now))
+  front : the (tie.At-loop Inv-loop μ-loop) (search) .loop .at + frontIn (drop (the (tie.At-loop Inv-loop μ-loop) (search) .loop .at) (the (tie.Start Inv-loop μ-loop) (search) .args .s .now))
       ≤ length (the (tie.Start Inv-loop μ-loop) (search) .args .s .now)
   front =
       let args = the (tie.Start Inv-loop μ-loop) (search) .args in
-      let l = c .before .loop in
+      let l = the (tie.At-loop Inv-loop μ-loop) (search) .loop in
       rowed-front (args .s .now) (args .out .now) (args .rows) (l .out) (l .at) (l .i) (l .inv) (omega arith)
 
-  room : 4 * c .before .loop .i + 4 ≤ length (c .before .loop .out)
+  room : 4 * the (tie.At-loop Inv-loop μ-loop) (search) .loop .i + 4 ≤ length (the (tie.At-loop Inv-loop μ-loop) (search) .loop .out)
   room =
       let args = the (tie.Start Inv-loop μ-loop) (search) .args in
-      let l = c .before .loop in
+      let l = the (tie.At-loop Inv-loop μ-loop) (search) .loop in
       rowed-room (args .s .now) (args .out .now) (args .rows) (l .out) (l .at) (l .i) (l .inv) (omega arith)
 
 name-len-requires : tie.Need-name-len-requires Inv-loop μ-loop
 name-len-requires c κs = numbers c
 
 value-len-requires : tie.Need-value-len-requires Inv-loop μ-loop
-value-len-requires c κs = numbers (c .before)
+value-len-requires c κs = numbers (the (tie.In-loop Inv-loop μ-loop) (search))
 
 mul-put-row : tie.Need-mul-put-row Inv-loop μ-loop
 mul-put-row c =
@@ -65,7 +65,7 @@ add-at-3 : tie.Need-add-at-3 Inv-loop μ-loop
 unfolding frontIn
 add-at-3 c =
     let named : tie.After-name-len Inv-loop μ-loop = search in
-    omega (arith, front (named .before), named .name-len .ensures .0, the (tie.After-value-len Inv-loop μ-loop) (search) .value-len .ensures .0)
+    omega (arith, front (the (tie.In-loop Inv-loop μ-loop) (search)), named .name-len .ensures .0, the (tie.After-value-len Inv-loop μ-loop) (search) .value-len .ensures .0)
 
 add-i : tie.Need-add-i Inv-loop μ-loop
 add-i c = omega arith
@@ -88,13 +88,13 @@ loop-again c =
 same-length : tie.Need-same-length Inv-loop μ-loop
 same-length c =
     let args = the (tie.Start Inv-loop μ-loop) (search) .args in
-    let l = c .before .loop in
+    let l = the (tie.At-loop Inv-loop μ-loop) (search) .loop in
     rowed-length (args .s .now) (args .out .now) (args .rows) (l .out) (l .at) (l .i) (l .inv)
 
 returns : tie.Need-returns Inv-loop μ-loop
 returns c =
     let args = the (tie.Start Inv-loop μ-loop) (search) .args in
-    let l = c .before .loop in
+    let l = the (tie.At-loop Inv-loop μ-loop) (search) .loop in
     rowed-end (args .s .now) (args .out .now) (args .rows) (l .out) (l .at) (l .i) (l .inv) (omega arith)
 
 pub put-rows-spec : {M : Type 1} → statement M

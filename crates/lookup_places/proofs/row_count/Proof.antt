@@ -30,7 +30,7 @@ add-result : tie.Need-add-result
 unfolding rowsHeld
 add-result c =
     let start : tie.Start = search in
-    omega (arith, few (start .args .m) (start .args .head .now) (start .pre), c .before .count-all .ensures)
+    omega (arith, few (start .args .m) (start .args .head .now) (start .pre), the tie.After-count-all (search) .count-all .ensures)
 
 add-result-2 : tie.Need-add-result-2
 unfolding rowsHeld

@@ -29,7 +29,7 @@ returns c =
     let b = args .body .now in
     let head = args .head .now in
     let store = args .store .now in
-    made t b head store _ _ (given-back emptyMessage head store _ 24 0 (utf8 t) _ (c .no-message .ensures) (utf8-refused t (sym (the tie.After-is-utf8 (search) .is-utf8 .ensures) ∙ not-true _ (c .before .if1 .taken))) (omega arith))
+    made t b head store _ _ (given-back emptyMessage head store _ 24 0 (utf8 t) _ (c .no-message .ensures) (utf8-refused t (sym (the tie.After-is-utf8 (search) .is-utf8 .ensures) ∙ not-true _ (the tie.Then1 (search) .if1 .taken))) (omega arith))
 
 returns-2 : tie.Need-returns-2
 unfolding new need total lengths lengthOf
@@ -40,7 +40,7 @@ returns-2 c =
     let b = args .body .now in
     let head = args .head .now in
     let store = args .store .now in
-    made t b head store _ _ (does-passed (bothLent emptyMessage head store) _ _ (utf8 t) _ (utf8-passed t (sym (the tie.After-is-utf8 (search) .is-utf8 .ensures) ∙ not-false _ (the tie.Else1 (search) .if1 .left))) (given-back emptyMessage head store _ _ _ (contentType t) _ (c .no-message2 .ensures) (the tie.After-validate-content-type (search) .validate-content-type .ensures) (c .before .if2 .taken)))
+    made t b head store _ _ (does-passed (bothLent emptyMessage head store) _ _ (utf8 t) _ (utf8-passed t (sym (the tie.After-is-utf8 (search) .is-utf8 .ensures) ∙ not-false _ (the tie.Else1 (search) .if1 .left))) (given-back emptyMessage head store _ _ _ (contentType t) _ (c .no-message2 .ensures) (the tie.After-validate-content-type (search) .validate-content-type .ensures) (the tie.Then2 (search) .if2 .taken)))
 
 returns-3 : tie.Need-returns-3
 unfolding new need total lengths lengthOf

@@ -24,7 +24,7 @@ returns c =
     let head = args .head .now in
     let store = args .store .now in
     let b = args .body .now in
-    body-unheld m head store b _ (first-fails _ _ (sym (the tie.After-message-holds (search) .message-holds .ensures) ∙ not-true _ (c .before .if1 .taken))) (c .refused .ensures)
+    body-unheld m head store b _ (first-fails _ _ (sym (the tie.After-message-holds (search) .message-holds .ensures) ∙ not-true _ (the tie.Then1 (search) .if1 .taken))) (c .refused .ensures)
 
 returns-2 : tie.Need-returns-2
 returns-2 c =

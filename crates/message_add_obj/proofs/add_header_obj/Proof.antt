@@ -50,7 +50,7 @@ returns-3 c =
     done name (args .h) (args .store .now) (args .m) head _ _
     (both-there (search))
     (sym (the tie.After-is-utf8 (search) .is-utf8 .ensures) ∙ not-false _ (the tie.Else2 (search) .if2 .left))
-    (λ x k held w. handed-on (args .m) head _ _ (headerName name) _ (c .refused .ensures) (the tie.After-validate-header-name (search) .validate-header-name .ensures) (c .before .if3 .taken))
+    (λ x k held w. handed-on (args .m) head _ _ (headerName name) _ (c .refused .ensures) (the tie.After-validate-header-name (search) .validate-header-name .ensures) (the tie.Then3 (search) .if3 .taken))
 
 add-from : tie.Need-add-from
 add-from c =

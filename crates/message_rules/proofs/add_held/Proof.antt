@@ -23,9 +23,8 @@ returns c =
     let start = start-before-validate-header-name (search) in
     let m = start .args .m in
     let head = start .args .head .now in
-    let name = start .args .name .now in
     let value = start .args .value .now in
-    λ k held. handed-on m head _ _ (headerValue value) _ (c .refused .ensures) (the tie.After-validate-cpim-header-value (search) .validate-cpim-header-value .ensures) (c .before .if1 .taken)
+    λ k held. handed-on m head _ _ (headerValue value) _ (c .refused .ensures) (the tie.After-validate-cpim-header-value (search) .validate-cpim-header-value .ensures) (the tie.Then1 (search) .if1 .taken)
 
 returns-2 : tie.Need-returns-2
 unfolding addHeader addHeaderObj
@@ -37,13 +36,11 @@ returns-2 c =
     let value = start .args .value .now in
     let v = zero-passes (headerValue value) _ (the tie.After-validate-cpim-header-value (search) .validate-cpim-header-value .ensures) (the tie.Else1 (search) .if1 .left) in
     λ k held. does-passed (headLent m head) _ _ (headerValue value) _ v
-    (handed-on m head _ _ (headerName name) _ (c .refused2 .ensures) (the tie.After-validate-header-name (search) .validate-header-name .ensures) (c .before .if2 .taken))
+    (handed-on m head _ _ (headerName name) _ (c .refused2 .ensures) (the tie.After-validate-header-name (search) .validate-header-name .ensures) (the tie.Then2 (search) .if2 .taken))
 
 append-held-requires : tie.Need-append-held-requires
 append-held-requires c κs =
     let start : tie.Start = search in
-    let m = start .args .m in
-    let head = start .args .head .now in
     let name = start .args .name .now in
     let value = start .args .value .now in
     let v = zero-passes (headerValue value) _ (the tie.After-validate-cpim-header-value (search) .validate-cpim-header-value .ensures) (the tie.Else1 (search) .if1 .left) in

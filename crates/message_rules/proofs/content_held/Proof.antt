@@ -31,8 +31,6 @@ add-count c =
     let start = start-before-validate-content-header-value (search) in
     let m = start .args .m in
     let head = start .args .head .now in
-    let name = start .args .name .now in
-    let value = start .args .value .now in
     let within = bounds m head (start .pre) in
     omega (arith, within .contents)
 
@@ -46,8 +44,7 @@ returns c =
     let m = start .args .m in
     let head = start .args .head .now in
     let name = start .args .name .now in
-    let value = start .args .value .now in
-    λ k held. handed-on m head _ _ (headerName name) _ (c .refused .ensures) (validate-header-name-before-contents-of (search) .validate-header-name .ensures) (c .before .if1 .taken)
+    λ k held. handed-on m head _ _ (headerName name) _ (c .refused .ensures) (validate-header-name-before-contents-of (search) .validate-header-name .ensures) (the tie.Then1 (search) .if1 .taken)
 
 returns-2 : tie.Need-returns-2
 unfolding addContentHeader
@@ -59,7 +56,7 @@ returns-2 c =
     let value = start .args .value .now in
     let n = zero-passes (headerName name) _ (validate-header-name-before-contents-of (search) .validate-header-name .ensures) (the tie.Else1 (search) .if1 .left) in
     λ k held. does-passed (headLent m head) _ _ (headerName name) _ n
-    (handed-on m head _ _ (contentValue value) _ (c .refused2 .ensures) (the tie.After-validate-content-header-value (search) .validate-content-header-value .ensures) (c .before .if2 .taken))
+    (handed-on m head _ _ (contentValue value) _ (c .refused2 .ensures) (the tie.After-validate-content-header-value (search) .validate-content-header-value .ensures) (the tie.Then2 (search) .if2 .taken))
 
 returns-3 : tie.Need-returns-3
 unfolding addContentHeader contentCount table
@@ -71,7 +68,7 @@ returns-3 c =
     let value = start .args .value .now in
     let within = bounds m head (start .pre) in
     let n = zero-passes (headerName name) _ (the tie.After-validate-header-name (search) .validate-header-name .ensures) (the tie.Else1 (search) .if1 .left) in
-    let v = zero-passes (contentValue value) _ (the tie.After-validate-content-header-value (search) .validate-content-header-value .ensures) (c .before .if2 .left) in
+    let v = zero-passes (contentValue value) _ (the tie.After-validate-content-header-value (search) .validate-content-header-value .ensures) (the tie.Else2 (search) .if2 .left) in
     λ k held. does-passed (headLent m head) _ _ (headerName name) _ n
     (does-passed (headLent m head) _ _ (contentValue value) _ v
     (too-many (headLent m head) _ maxContents 22 tooManyContents (m .contents) _ _ (λ i. refl) (omega arith) (held-parts (headLent m head) k held .contents)

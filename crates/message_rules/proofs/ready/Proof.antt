@@ -12,10 +12,10 @@ returns : tie.Need-returns
 returns c = not-held _ _ (sym (the tie.After-message-holds (search) .message-holds .ensures) ∙ not-true _ (c .if1 .taken))
 
 returns-2 : tie.Need-returns-2
-returns-2 c = not-text _ _ (sym (the tie.After-message-holds (search) .message-holds .ensures) ∙ not-false _ (c .before .if1 .left)) ((λ i. sym (the tie.After-is-utf8 (search) .is-utf8 .ensures) i && sym (the tie.After-is-utf82 (search) .is-utf82 .ensures) i) ∙ not-true _ (c .if2 .taken))
+returns-2 c = not-text _ _ (sym (the tie.After-message-holds (search) .message-holds .ensures) ∙ not-false _ (the tie.Else1 (search) .if1 .left)) ((λ i. sym (the tie.After-is-utf8 (search) .is-utf8 .ensures) i && sym (the tie.After-is-utf82 (search) .is-utf82 .ensures) i) ∙ not-true _ (c .if2 .taken))
 
 returns-3 : tie.Need-returns-3
-returns-3 c = all-ready _ _ (sym (the tie.After-message-holds (search) .message-holds .ensures) ∙ not-false _ (c .before .if1 .left)) ((λ i. sym (the tie.After-is-utf8 (search) .is-utf8 .ensures) i && sym (the tie.After-is-utf82 (search) .is-utf82 .ensures) i) ∙ not-false _ (c .if2 .left))
+returns-3 c = all-ready _ _ (sym (the tie.After-message-holds (search) .message-holds .ensures) ∙ not-false _ (the tie.Else1 (search) .if1 .left)) ((λ i. sym (the tie.After-is-utf8 (search) .is-utf8 .ensures) i && sym (the tie.After-is-utf82 (search) .is-utf82 .ensures) i) ∙ not-false _ (c .if2 .left))
 
 pub ready-spec : {M : Type 1} → statement M
 ready-spec =

@@ -33,7 +33,6 @@ sub-others c =
     let m = start .args .m in
     let head = start .args .head .now in
     let name = start .args .name .now in
-    let value = start .args .value .now in
     let fit = headers-fit m head name _ _ _ (start .pre) (the tie.After-headers-of (search) .headers-of .ensures) in
     omega (arith, fit .1)
 
@@ -50,16 +49,13 @@ returns c =
     let m = start .args .m in
     let head = start .args .head .now in
     let name = start .args .name .now in
-    let value = start .args .value .now in
-    λ k held. handed-on m head _ _ (headerName name) _ (c .refused .ensures) (validate-header-name-before-validate-cpim-header-value (search) .validate-header-name .ensures) (c .before .if1 .taken)
+    λ k held. handed-on m head _ _ (headerName name) _ (c .refused .ensures) (validate-header-name-before-validate-cpim-header-value (search) .validate-header-name .ensures) (the tie.Then1 (search) .if1 .taken)
 
 add-t13 : tie.Need-add-t13
 add-t13 c =
     let start = start-before-headers-of (search) in
     let m = start .args .m in
     let head = start .args .head .now in
-    let name = start .args .name .now in
-    let value = start .args .value .now in
     let within = bounds m head (start .pre) in
     omega (arith, within .headers)
 
@@ -70,9 +66,8 @@ returns-2 c =
     let m = start .args .m in
     let head = start .args .head .now in
     let name = start .args .name .now in
-    let value = start .args .value .now in
     let within = bounds m head (start .pre) in
-    let n = zero-passes (headerName name) _ (the tie.After-validate-header-name (search) .validate-header-name .ensures) (c .before .if1 .left) in
+    let n = zero-passes (headerName name) _ (the tie.After-validate-header-name (search) .validate-header-name .ensures) (the tie.Else1 (search) .if1 .left) in
     λ k held.
     let count : m .headers - the tie.After-headers-of (search) .headers-of .result .many ≡ length (without nameOf name (k .headers)) = omega (arith, without-count nameOf needHeader name (k .headers) _ _ _ (the tie.After-headers-of (search) .headers-of .ensures k held) (message-parts k (held .within) .headers .ordered), held-parts (headLent m head) k held .headers) in
     does-passed (headLent m head) _ _ (headerName name) _ n
@@ -92,7 +87,7 @@ returns-3 c =
     let count : m .headers - the tie.After-headers-of (search) .headers-of .result .many ≡ length (without nameOf name (k .headers)) = omega (arith, without-count nameOf needHeader name (k .headers) _ _ _ (the tie.After-headers-of (search) .headers-of .ensures k held) (message-parts k (held .within) .headers .ordered), held-parts (headLent m head) k held .headers) in
     does-passed (headLent m head) _ _ (headerName name) _ n
     (does-passed (headLent m head) _ _ (headerCount (length (without nameOf name (k .headers)))) _ (atMost-passed maxHeaders tooManyHeaders (length (without nameOf name (k .headers)) + 1) (omega (arith, count)))
-    (handed-on m head _ _ (headerValue value) _ (c .refused2 .ensures) (the tie.After-validate-cpim-header-value (search) .validate-cpim-header-value .ensures) (c .before .if3 .taken)))
+    (handed-on m head _ _ (headerValue value) _ (c .refused2 .ensures) (the tie.After-validate-cpim-header-value (search) .validate-cpim-header-value .ensures) (the tie.Then3 (search) .if3 .taken)))
 
 splice-header-requires : tie.Need-splice-header-requires
 splice-header-requires c κs =

@@ -29,7 +29,7 @@ slice-write-dst c = omega arith
 loop-again : tie.Need-loop-again Inv-loop μ-loop
 loop-again c =
     let at-loop : tie.At-loop Inv-loop μ-loop = search in
-    let args = at-loop .before .args in
+    let args = the (tie.Start Inv-loop μ-loop) (search) .args in
     let i = at-loop .loop .i in (
       omega arith,
       ap (λ (l : Bytes). set l (args .at + i) (getD (args .src .now) i 0)) (at-loop .loop .inv .1)
@@ -40,7 +40,7 @@ loop-again c =
 returns : tie.Need-returns Inv-loop μ-loop
 returns c =
     let args = the (tie.Start Inv-loop μ-loop) (search) .args in
-    c .before .loop .inv .1 ∙ ap (λ (l : Bytes). pasted (args .at) l (args .dst .now)) (take-all (c .before .loop .i) (args .src .now) (omega arith))
+    the (tie.At-loop Inv-loop μ-loop) (search) .loop .inv .1 ∙ ap (λ (l : Bytes). pasted (args .at) l (args .dst .now)) (take-all (the (tie.At-loop Inv-loop μ-loop) (search) .loop .i) (args .src .now) (omega arith))
 
 pub copy-at-spec : {M : Type 1} → statement M
 copy-at-spec =

@@ -6,6 +6,7 @@ use native.Mathlib.Omega.{arith}
 use lib.ListN.{length, drop, set, replicate, length-set, drop-of-length-le}
 use borrow.Author.Fill.{fill-none, fill-more}
 use borrow.Author.Needs.{needs}
+use Rattle.format.proofs.Typed.{the}
 use Rattle.octets.proofs.zero_fill.Statement.{statement}
 use Rattle.octets.proofs.zero_fill.Tie as tie
 
@@ -29,14 +30,14 @@ loop-again c =
     let at-loop : tie.At-loop Inv-loop μ-loop = search in
     let i = at-loop .loop .i in (
       omega arith,
-      ap (λ (l : List ℕ). set l i 0) (at-loop .loop .inv .1) ∙ fill-more i 0 (at-loop .before .args .s .now) (omega arith),
+      ap (λ (l : List ℕ). set l i 0) (at-loop .loop .inv .1) ∙ fill-more i 0 (the (tie.Start Inv-loop μ-loop) (search) .args .s .now) (omega arith),
       simp length-set (at-loop .loop .inv .2),
     )
 
 returns : tie.Need-returns Inv-loop μ-loop
 returns c =
     let at-loop : tie.At-loop Inv-loop μ-loop = search in
-    let s₀ = at-loop .before .args .s .now in
+    let s₀ = the (tie.Start Inv-loop μ-loop) (search) .args .s .now in
     let e : at-loop .loop .i ≡ length s₀ = omega arith in
     at-loop .loop .inv .1
     ∙ ap (λ (n : ℕ). replicate n 0 ++ drop n s₀) e

@@ -55,7 +55,7 @@ texts-at c = sections-stand _ _ _ _ _ _ _ _ (c .pre)
 -- 3 does not apply
 said : (c : tie.Else1) → saysCpim (parts-at (search) .mime) ≡ true
 unfolding saysCpim
-said c = sym (c .before .says .ensures) ∙ not-false _ (c .if1 .left)
+said c = sym (the tie.After-says (search) .says .ensures) ∙ not-false _ (c .if1 .left)
 
 -- the headers: what their lines give, and the message where all are accepted
 kept-start : (c : tie.After-start) → length (c .start .last .0) ≡ length (the tie.Start (search) .args .head .now)
@@ -99,7 +99,7 @@ returns : tie.Need-returns
 unfolding saysCpim
 returns c =
     let start : tie.Start = search in
-    no-cpim (text-at start) (parts-at start) (parts-are start) (lent-at start) (bothLent (c .no-message .result .message) (start .args .head .now) (start .args .body .now)) (numbersOf (c .no-message .result)) (ap numbersOf (c .no-message .ensures)) (sym (the tie.After-says (search) .says .ensures) ∙ not-true _ (c .before .if1 .taken))
+    no-cpim (text-at start) (parts-at start) (parts-are start) (lent-at start) (bothLent (c .no-message .result .message) (start .args .head .now) (start .args .body .now)) (numbersOf (c .no-message .result)) (ap numbersOf (c .no-message .ensures)) (sym (the tie.After-says (search) .says .ensures) ∙ not-true _ (the tie.Then1 (search) .if1 .taken))
 
 returns-2 : tie.Need-returns-2
 returns-2 c =

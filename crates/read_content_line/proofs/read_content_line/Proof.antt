@@ -23,7 +23,7 @@ returns c =
     let start : tie.Start = search in
     let m = start .args .m in
     let head = start .args .head .now in
-    λ k held. line-skipped m head (start .args .line .now) k held (sym (c .before .has .ensures) ∙ not-true _ (c .if1 .taken))
+    λ k held. line-skipped m head (start .args .line .now) k held (sym (the tie.After-has (search) .has .ensures) ∙ not-true _ (c .if1 .taken))
 
 returns-2 : tie.Need-returns-2
 returns-2 c =

@@ -21,12 +21,12 @@ returns c =
     let m = start .args .m in
     let head = start .args .head .now in
     let t = start .args .t .now in
-    λ k held. handed-on m head _ _ (contentType t) _ (c .refused .ensures) (the tie.After-validate-content-type (search) .validate-content-type .ensures) (c .before .if1 .taken)
+    λ k held. handed-on m head _ _ (contentType t) _ (c .refused .ensures) (the tie.After-validate-content-type (search) .validate-content-type .ensures) (the tie.Then1 (search) .if1 .taken)
 
 put-type-requires : tie.Need-put-type-requires
 put-type-requires c κs =
     let start : tie.Start = search in
-    let short = contentType-length (start .args .t .now) (zero-passes (contentType (start .args .t .now)) _ (the tie.After-validate-content-type (search) .validate-content-type .ensures) (c .before .if1 .left)) in
+    let short = contentType-length (start .args .t .now) (zero-passes (contentType (start .args .t .now)) _ (the tie.After-validate-content-type (search) .validate-content-type .ensures) (the tie.Else1 (search) .if1 .left)) in
     (short, omega (arith, bounds (start .args .m) (start .args .head .now) (start .pre) .used))
 
 returns-2 : tie.Need-returns-2

@@ -24,7 +24,7 @@ returns-2 c =
     let o = unescape (args .text .now) in
     let u = the tie.After-unescaped-len (search) .unescaped-len in
     λ k ps held t. too-long (args .m) (args .head .now) (args .name .now) ps k o (valueOf o)
-    (is-read o _ (u .ensures) (not-false _ (c .before .if1 .left))) (u .result .len) (length-is o _ (u .ensures)) (omega arith) (omega arith)
+    (is-read o _ (u .ensures) (not-false _ (the tie.Else1 (search) .if1 .left))) (u .result .len) (length-is o _ (u .ensures)) (omega arith) (omega arith)
 
 append-held-requires : tie.Need-append-held-requires
 append-held-requires c κs =

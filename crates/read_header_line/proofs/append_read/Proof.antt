@@ -14,7 +14,7 @@ use Rattle.read_header_line.proofs.append_read.Tie as tie
 
 -- there is no backslash
 plain : (c : tie.Else1) → unescape (the tie.Start (search) .args .text .now) ≡ some (the tie.Start (search) .args .text .now)
-plain c = plain-reads (the tie.Start (search) .args .text .now) (c .before .find-byte .result) (c .before .find-byte .ensures) (omega arith)
+plain c = plain-reads (the tie.Start (search) .args .text .now) (the tie.After-find-byte (search) .find-byte .result) (the tie.After-find-byte (search) .find-byte .ensures) (omega arith)
 
 append-escaped-requires : tie.Need-append-escaped-requires
 append-escaped-requires c κs = the tie.Start (search) .pre
@@ -27,13 +27,13 @@ returns-2 c =
     let args = the tie.Start (search) .args in
     let text = args .text .now in
     λ k ps held t. refused-long (args .m) (args .head .now) (args .name .now) ps k (unescape text) text (plain (search)) _ _
-    (c .refused .ensures) (the tie.After-validate-cpim-header-value (search) .validate-cpim-header-value .ensures) (c .before .if2 .taken)
+    (c .refused .ensures) (the tie.After-validate-cpim-header-value (search) .validate-cpim-header-value .ensures) (the tie.Then2 (search) .if2 .taken)
 
 append-held-requires : tie.Need-append-held-requires
 append-held-requires c κs =
     let start : tie.Start = search in
     let text = start .args .text .now in
-    let v = zero-passes (headerValue text) _ (the tie.After-validate-cpim-header-value (search) .validate-cpim-header-value .ensures) (c .before .if2 .left) in
+    let v = zero-passes (headerValue text) _ (the tie.After-validate-cpim-header-value (search) .validate-cpim-header-value .ensures) (the tie.Else2 (search) .if2 .left) in
     (start .pre .0, ((refl, refl), (start .pre .1 .0, omega (arith, value-short text v), start .pre .1 .1, start .pre .1 .2)))
 
 returns-3 : tie.Need-returns-3

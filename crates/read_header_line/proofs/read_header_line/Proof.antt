@@ -20,13 +20,13 @@ use Rattle.read_header_line.proofs.read_header_line.Tie as tie
 returns : tie.Need-returns
 returns c =
     let args = the tie.Start (search) .args in
-    λ k held. no-colon (args .line .now) (c .before .find-byte .result) (c .before .find-byte .ensures) (headLent (args .m) (args .head .now)) _ _ k (omega arith) refl refl
+    λ k held. no-colon (args .line .now) (the tie.After-find-byte (search) .find-byte .result) (the tie.After-find-byte (search) .find-byte .ensures) (headLent (args .m) (args .head .now)) _ _ k (omega arith) refl refl
 
 slice-aggregate-left : tie.Need-slice-aggregate-left
 slice-aggregate-left c = found-length _ _ _ (the tie.After-find-byte (search) .find-byte .ensures)
 
 slice-aggregate-trim : tie.Need-slice-aggregate-trim
-slice-aggregate-trim c = found-length _ _ _ (c .before .find-byte2 .ensures)
+slice-aggregate-trim c = found-length _ _ _ (the tie.After-find-byte2 (search) .find-byte2 .ensures)
 
 -- the name, and what stands left of the colon
 named : (c : tie.After-trim) → c .trim .result .now ≡ trim ((split (semicolon ∷ []) (take (the tie.After-find-byte (search) .find-byte .result) (the tie.Start (search) .args .line .now))) .first)

@@ -12,7 +12,7 @@ use Rattle.read_split.proofs.body_place.Tie as tie
 -- the separator is CRLFCRLF
 inside : (c : tie.Then1) → inText (the tie.Start (search) .args .text .now) ≡ true
 unfolding inText
-inside c = sym (c .before .crlf-sections .ensures) ∙ c .if1 .taken
+inside c = sym (the tie.After-crlf-sections (search) .crlf-sections .ensures) ∙ c .if1 .taken
 
 sub-t8 : tie.Need-sub-t8
 sub-t8 c =
@@ -30,7 +30,7 @@ returns-2 : tie.Need-returns-2
 unfolding inText
 returns-2 c =
     let args = the tie.Start (search) .args in
-    outside-place (args .text .now) (args .buffer .now) (args .len) _ (the tie.After-body-part (search) .body-part .ensures .0) (sym (c .before .crlf-sections .ensures) ∙ c .if1 .left)
+    outside-place (args .text .now) (args .buffer .now) (args .len) _ (the tie.After-body-part (search) .body-part .ensures .0) (sym (the tie.After-crlf-sections (search) .crlf-sections .ensures) ∙ c .if1 .left)
 
 pub body-place-spec : {M : Type 1} → statement M
 body-place-spec =

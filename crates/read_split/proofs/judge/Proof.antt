@@ -16,14 +16,11 @@ returns c = too-long (the tie.Start (search) .args .text .now) (omega arith) (om
 
 -- the text is UTF-8
 text-at : (c : tie.Else2) → isUtf8 (the tie.Start (search) .args .text .now) ≡ true
-text-at c = sym (c .before .is-utf8 .ensures) ∙ not-false _ (c .if2 .left)
+text-at c = sym (the tie.After-is-utf8 (search) .is-utf8 .ensures) ∙ not-false _ (c .if2 .left)
 
 returns-2 : tie.Need-returns-2
 returns-2 c =
-    not-text (the tie.Start (search) .args .text .now) (omega arith) (sym (c .before .is-utf8 .ensures) ∙ not-true _ (c .if2 .taken))
-
-enum-told : tie.Need-enum-told
-enum-told c = search needs
+    not-text (the tie.Start (search) .args .text .now) (omega arith) (sym (the tie.After-is-utf8 (search) .is-utf8 .ensures) ∙ not-true _ (c .if2 .taken))
 
 returns-3 : tie.Need-returns-3
 returns-3 c =
@@ -36,11 +33,11 @@ returns-4 c =
     let t = the tie.Start (search) .args .text .now in
     let crlf = the tie.After-crlf-sections (search) .crlf-sections .result in
     let q = the tie.After-first-three (search) .first-three .result in
-    subst (Stands t crlf) (c .before .places .given .1)
+    subst (Stands t crlf) (the tie.After-places (search) .places .given .1)
     (stands t (omega arith) (text-at (search)) crlf (the tie.After-crlf-sections (search) .crlf-sections .ensures) q (the tie.After-first-three (search) .first-three .ensures .0) (the tie.After-first-three (search) .first-three .ensures .1))
 
 pub judge-spec : {M : Type 1} → statement M
 judge-spec =
     tie.close
-    (tie.spec returns (λ c κs. search needs) returns-2 (λ c κs. search needs) (λ c κs. search needs) enum-told (λ c. search needs) returns-3
+    (tie.spec returns (λ c κs. search needs) returns-2 (λ c κs. search needs) (λ c κs. search needs) (λ c. search needs) (λ c. search needs) returns-3
     returns-4)

@@ -19,26 +19,26 @@ use Rattle.read_split.proofs.read_body.Statement.{statement}
 use Rattle.read_split.proofs.read_body.Tie as tie
 
 -- what was judged
-stands-at : (c : tie.After-known-told2) → Stands (the tie.Start (search) .args .text .now) (c .before .judgement2 .given .0 .0) (Four (c .before .judgement2 .given .0 .1 .0) (c .before .judgement2 .given .0 .1 .1 .0) (c .before .judgement2 .given .0 .1 .1 .1 .0) (c .before .judgement2 .given .0 .1 .1 .1 .1 .0) (c .before .judgement2 .given .0 .1 .1 .1 .1 .1 .0) (c .before .judgement2 .given .0 .1 .1 .1 .1 .1 .1 .0))
-stands-at c = subst (Judged (the tie.Start (search) .args .text .now)) (c .before .judgement2 .given .1) (the tie.After-judge (search) .judge .ensures)
+stands-at : (c : tie.After-known-told2) → Stands (the tie.Start (search) .args .text .now) (the tie.After-judgement2 (search) .judgement2 .given .0 .0) (Four (the tie.After-judgement2 (search) .judgement2 .given .0 .1 .0) (the tie.After-judgement2 (search) .judgement2 .given .0 .1 .1 .0) (the tie.After-judgement2 (search) .judgement2 .given .0 .1 .1 .1 .0) (the tie.After-judgement2 (search) .judgement2 .given .0 .1 .1 .1 .1 .0) (the tie.After-judgement2 (search) .judgement2 .given .0 .1 .1 .1 .1 .1 .0) (the tie.After-judgement2 (search) .judgement2 .given .0 .1 .1 .1 .1 .1 .1 .0))
+stands-at c = subst (Judged (the tie.Start (search) .args .text .now)) (the tie.After-judgement2 (search) .judgement2 .given .1) (the tie.After-judge (search) .judge .ensures)
 
 -- the parts, and where the rest begins
 abbrev parts-at : tie.After-known-told2 → Parts
 parts-at c =
     let t = the tie.Start (search) .args .text .now in
-    let g = c .before .judgement2 .given .0 in
+    let g = the tie.After-judgement2 (search) .judgement2 .given .0 in
     record { mime = take (g .1 .0) t; headers = take (g .1 .1 .1 .0 - g .1 .1 .0) (drop (g .1 .1 .0) t); contents = take (g .1 .1 .1 .1 .1 .0 - g .1 .1 .1 .1 .0) (drop (g .1 .1 .1 .1 .0) t); body = bodyBehind (g .0) (drop (g .1 .1 .1 .1 .1 .1 .0) t) }
 
-rest-within : (c : tie.After-known-told2) → c .before .judgement2 .given .0 .1 .1 .1 .1 .1 .1 .0 ≤ length (the tie.Start (search) .args .text .now)
+rest-within : (c : tie.After-known-told2) → the tie.After-judgement2 (search) .judgement2 .given .0 .1 .1 .1 .1 .1 .1 .0 ≤ length (the tie.Start (search) .args .text .now)
 rest-within c = three _ _ _ _ _ _ _ _ (stands-at c) .within
 
 -- under LFLF the sections from the fourth, joined, are the body
-joined-is : (c : tie.After-known-told2) → c .before .judgement2 .given .0 .0 ≡ false
-    → joined (take (length (the tie.Start (search) .args .text .now) - c .before .judgement2 .given .0 .1 .1 .1 .1 .1 .1 .0) (drop (c .before .judgement2 .given .0 .1 .1 .1 .1 .1 .1 .0) (the tie.Start (search) .args .text .now)))
+joined-is : (c : tie.After-known-told2) → the tie.After-judgement2 (search) .judgement2 .given .0 .0 ≡ false
+    → joined (take (length (the tie.Start (search) .args .text .now) - the tie.After-judgement2 (search) .judgement2 .given .0 .1 .1 .1 .1 .1 .1 .0) (drop (the tie.After-judgement2 (search) .judgement2 .given .0 .1 .1 .1 .1 .1 .1 .0) (the tie.Start (search) .args .text .now)))
     ≡ parts-at c .body
 joined-is c h =
     let t = the tie.Start (search) .args .text .now in
-    let rest = c .before .judgement2 .given .0 .1 .1 .1 .1 .1 .1 .0 in
+    let rest = the tie.After-judgement2 (search) .judgement2 .given .0 .1 .1 .1 .1 .1 .1 .0 in
     ap joined (rest-is t rest) ∙ ap (λ (b : Bool). bodyBehind b (drop rest t)) (sym h)
 
 body-len-requires : tie.Need-body-len-requires
@@ -48,7 +48,7 @@ returns : tie.Need-returns
 returns c =
     let at : tie.After-known-told2 = search in
     let args = the tie.Start (search) .args in
-    found-long (args .text .now) (parts-at at) (parts-stand _ _ _ _ _ _ _ _ (stands-at at)) _ (c .before .body-len .ensures) (omega arith) (args .buffer .now) (omega arith)
+    found-long (args .text .now) (parts-at at) (parts-stand _ _ _ _ _ _ _ _ (stands-at at)) _ (the tie.After-body-len (search) .body-len .ensures) (omega arith) (args .buffer .now) (omega arith)
 
 returns-2 : tie.Need-returns-2
 returns-2 c =
@@ -62,7 +62,7 @@ returns-3 c =
     let at : tie.After-known-told2 = search in
     let args = the tie.Start (search) .args in
     found-short (args .text .now) (parts-at at) (parts-stand _ _ _ _ _ _ _ _ (stands-at at)) _ (the tie.After-body-len (search) .body-len .ensures) (omega arith)
-    (sym (stands-at at .separated) ∙ c .before .if2 .left) (args .buffer .now) (omega arith) (omega arith)
+    (sym (stands-at at .separated) ∙ the tie.Else2 (search) .if2 .left) (args .buffer .now) (omega arith) (omega arith)
 
 sub-join-into : tie.Need-sub-join-into
 sub-join-into c = omega (arith, rest-within (search))
@@ -78,7 +78,7 @@ join-into-requires c κs =
 returns-4 : tie.Need-returns-4
 returns-4 c =
     let args = the tie.Start (search) .args in
-    found-none (args .text .now) _ (subst (Judged (args .text .now)) (c .before .judgement .given .1) (the tie.After-judge (search) .judge .ensures)) (args .buffer .now)
+    found-none (args .text .now) _ (subst (Judged (args .text .now)) (the tie.After-judgement (search) .judgement .given .1) (the tie.After-judge (search) .judge .ensures)) (args .buffer .now)
 
 returns-5 : tie.Need-returns-5
 returns-5 c =

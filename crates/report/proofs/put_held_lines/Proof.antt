@@ -10,7 +10,7 @@ use Rattle.report.proofs.put_held_lines.Tie as tie
 put-message-requires : tie.Need-put-message-requires
 put-message-requires c κs =
     let start : tie.Start = search in
-    (start .pre .0, kind-short (start .args .m) (start .args .head .now) (c .before .content-type .result .now) _ (c .before .content-type .ensures) (start .pre .1))
+    (start .pre .0, kind-short (start .args .m) (start .args .head .now) (the tie.After-content-type (search) .content-type .result .now) _ (the tie.After-content-type (search) .content-type .ensures) (start .pre .1))
 
 returns : tie.Need-returns
 returns c =

@@ -21,7 +21,7 @@ told : (c : tie.After-loss-of) (o : Option Message) → Held (lent c) o → eqb 
 told c o held = answers o (c .loss-of .result) (c .loss-of .ensures o held)
 
 returns : tie.Need-returns
-returns c = (told (search), reads-back-exactly (lent (search)) (eqb (c .before .loss-of .result .clause) 0) (told (search)))
+returns c = (told (search), reads-back-exactly (lent (search)) (eqb (the tie.After-loss-of (search) .loss-of .result .clause) 0) (told (search)))
 
 pub comes-back-spec : {M : Type 1} → statement M
 comes-back-spec = tie.close (tie.spec (λ c κs. search needs) returns)

@@ -20,7 +20,7 @@ returns c =
     c .lost .ensures
     ∙ no-header (args .hs .now) (args .cs .now) (args .headers) (args .contents) xs ys lx ly (args .body .now)
     (the tie.After-count-passing (search) .count-passing .result) (the tie.After-is-utf8 (search) .is-utf8 .result) (the tie.After-count-passing2 (search) .count-passing2 .result) (the tie.After-count-passing (search) .count-passing .ensures) (the tie.After-is-utf8 (search) .is-utf8 .ensures) (the tie.After-count-passing2 (search) .count-passing2 .ensures)
-    (c .before .if1 .taken)
+    (the tie.Then1 (search) .if1 .taken)
 
 returns-2 : tie.Need-returns-2
 returns-2 c =
@@ -29,7 +29,7 @@ returns-2 c =
     c .lost2 .ensures
     ∙ a-param (args .hs .now) (args .cs .now) (args .headers) (args .contents) xs ys lx ly (args .body .now)
     (the tie.After-count-passing (search) .count-passing .result) (the tie.After-is-utf8 (search) .is-utf8 .result) (the tie.After-count-passing2 (search) .count-passing2 .result) (the tie.After-count-passing (search) .count-passing .ensures) (the tie.After-is-utf8 (search) .is-utf8 .ensures) (the tie.After-count-passing2 (search) .count-passing2 .ensures)
-    (the tie.Else1 (search) .if1 .left) (c .before .if2 .taken)
+    (the tie.Else1 (search) .if1 .left) (the tie.Then2 (search) .if2 .taken)
 
 returns-3 : tie.Need-returns-3
 returns-3 c =
@@ -38,7 +38,7 @@ returns-3 c =
     c .lost3 .ensures
     ∙ no-text (args .hs .now) (args .cs .now) (args .headers) (args .contents) xs ys lx ly (args .body .now)
     (the tie.After-count-passing (search) .count-passing .result) (the tie.After-is-utf8 (search) .is-utf8 .result) (the tie.After-count-passing2 (search) .count-passing2 .result) (the tie.After-count-passing (search) .count-passing .ensures) (the tie.After-is-utf8 (search) .is-utf8 .ensures) (the tie.After-count-passing2 (search) .count-passing2 .ensures)
-    (the tie.Else1 (search) .if1 .left) (the tie.Else2 (search) .if2 .left) (not-true _ (c .before .if3 .taken))
+    (the tie.Else1 (search) .if1 .left) (the tie.Else2 (search) .if2 .left) (not-true _ (the tie.Then3 (search) .if3 .taken))
 
 returns-4 : tie.Need-returns-4
 returns-4 c =
@@ -47,7 +47,7 @@ returns-4 c =
     c .lost4 .ensures
     ∙ a-type (args .hs .now) (args .cs .now) (args .headers) (args .contents) xs ys lx ly (args .body .now)
     (the tie.After-count-passing (search) .count-passing .result) (the tie.After-is-utf8 (search) .is-utf8 .result) (the tie.After-count-passing2 (search) .count-passing2 .result) (the tie.After-count-passing (search) .count-passing .ensures) (the tie.After-is-utf8 (search) .is-utf8 .ensures) (the tie.After-count-passing2 (search) .count-passing2 .ensures)
-    (the tie.Else1 (search) .if1 .left) (the tie.Else2 (search) .if2 .left) (not-false _ (the tie.Else3 (search) .if3 .left)) (c .before .if4 .taken)
+    (the tie.Else1 (search) .if1 .left) (the tie.Else2 (search) .if2 .left) (not-false _ (the tie.Else3 (search) .if3 .left)) (the tie.Then4 (search) .if4 .taken)
 
 returns-5 : tie.Need-returns-5
 returns-5 c =
@@ -56,7 +56,7 @@ returns-5 c =
     c .lost5 .ensures
     ∙ early-none (args .hs .now) (args .cs .now) (args .headers) (args .contents) xs ys lx ly (args .body .now)
     (the tie.After-count-passing (search) .count-passing .result) (the tie.After-is-utf8 (search) .is-utf8 .result) (the tie.After-count-passing2 (search) .count-passing2 .result) (the tie.After-count-passing (search) .count-passing .ensures) (the tie.After-is-utf8 (search) .is-utf8 .ensures) (the tie.After-count-passing2 (search) .count-passing2 .ensures)
-    (the tie.Else1 (search) .if1 .left) (the tie.Else2 (search) .if2 .left) (not-false _ (the tie.Else3 (search) .if3 .left)) (c .before .if4 .left)
+    (the tie.Else1 (search) .if1 .left) (the tie.Else2 (search) .if2 .left) (not-false _ (the tie.Else3 (search) .if3 .left)) (the tie.Else4 (search) .if4 .left)
 
 pub early-loss-spec : {M : Type 1} → statement M
 early-loss-spec =

@@ -24,7 +24,7 @@ returns c =
     ∙ a-name (args .hs .now) (args .cs .now) (args .headers) (args .contents) xs ys lx ly (args .kind .now)
     (the tie.After-count-passing (search) .count-passing .result) (the tie.After-count-passing2 (search) .count-passing2 .result) (the tie.After-clear-ends (search) .clear-ends .result) (the tie.After-count-passing3 (search) .count-passing3 .result)
     (the tie.After-count-passing (search) .count-passing .ensures) (the tie.After-count-passing2 (search) .count-passing2 .ensures) (the tie.After-clear-ends (search) .clear-ends .ensures) (the tie.After-count-passing3 (search) .count-passing3 .ensures)
-    (c .before .if1 .taken)
+    (the tie.Then1 (search) .if1 .taken)
 
 returns-2 : tie.Need-returns-2
 returns-2 c =
@@ -34,7 +34,7 @@ returns-2 c =
     ∙ a-content (args .hs .now) (args .cs .now) (args .headers) (args .contents) xs ys lx ly (args .kind .now)
     (the tie.After-count-passing (search) .count-passing .result) (the tie.After-count-passing2 (search) .count-passing2 .result) (the tie.After-clear-ends (search) .clear-ends .result) (the tie.After-count-passing3 (search) .count-passing3 .result)
     (the tie.After-count-passing (search) .count-passing .ensures) (the tie.After-count-passing2 (search) .count-passing2 .ensures) (the tie.After-clear-ends (search) .clear-ends .ensures) (the tie.After-count-passing3 (search) .count-passing3 .ensures)
-    (the tie.Else1 (search) .if1 .left) (c .before .if2 .taken)
+    (the tie.Else1 (search) .if1 .left) (the tie.Then2 (search) .if2 .taken)
 
 returns-3 : tie.Need-returns-3
 returns-3 c =
@@ -44,7 +44,7 @@ returns-3 c =
     ∙ the-type (args .hs .now) (args .cs .now) (args .headers) (args .contents) xs ys lx ly (args .kind .now)
     (the tie.After-count-passing (search) .count-passing .result) (the tie.After-count-passing2 (search) .count-passing2 .result) (the tie.After-clear-ends (search) .clear-ends .result) (the tie.After-count-passing3 (search) .count-passing3 .result)
     (the tie.After-count-passing (search) .count-passing .ensures) (the tie.After-count-passing2 (search) .count-passing2 .ensures) (the tie.After-clear-ends (search) .clear-ends .ensures) (the tie.After-count-passing3 (search) .count-passing3 .ensures)
-    (the tie.Else1 (search) .if1 .left) (the tie.Else2 (search) .if2 .left) (not-true _ (c .before .if3 .taken))
+    (the tie.Else1 (search) .if1 .left) (the tie.Else2 (search) .if2 .left) (not-true _ (the tie.Then3 (search) .if3 .taken))
 
 returns-4 : tie.Need-returns-4
 returns-4 c =
@@ -54,7 +54,7 @@ returns-4 c =
     ∙ a-value (args .hs .now) (args .cs .now) (args .headers) (args .contents) xs ys lx ly (args .kind .now)
     (the tie.After-count-passing (search) .count-passing .result) (the tie.After-count-passing2 (search) .count-passing2 .result) (the tie.After-clear-ends (search) .clear-ends .result) (the tie.After-count-passing3 (search) .count-passing3 .result)
     (the tie.After-count-passing (search) .count-passing .ensures) (the tie.After-count-passing2 (search) .count-passing2 .ensures) (the tie.After-clear-ends (search) .clear-ends .ensures) (the tie.After-count-passing3 (search) .count-passing3 .ensures)
-    (the tie.Else1 (search) .if1 .left) (the tie.Else2 (search) .if2 .left) (not-false _ (the tie.Else3 (search) .if3 .left)) (c .before .if4 .taken)
+    (the tie.Else1 (search) .if1 .left) (the tie.Else2 (search) .if2 .left) (not-false _ (the tie.Else3 (search) .if3 .left)) (the tie.Then4 (search) .if4 .taken)
 
 returns-5 : tie.Need-returns-5
 returns-5 c =
@@ -64,7 +64,7 @@ returns-5 c =
     ∙ late-none (args .hs .now) (args .cs .now) (args .headers) (args .contents) xs ys lx ly (args .kind .now)
     (the tie.After-count-passing (search) .count-passing .result) (the tie.After-count-passing2 (search) .count-passing2 .result) (the tie.After-clear-ends (search) .clear-ends .result) (the tie.After-count-passing3 (search) .count-passing3 .result)
     (the tie.After-count-passing (search) .count-passing .ensures) (the tie.After-count-passing2 (search) .count-passing2 .ensures) (the tie.After-clear-ends (search) .clear-ends .ensures) (the tie.After-count-passing3 (search) .count-passing3 .ensures)
-    (the tie.Else1 (search) .if1 .left) (the tie.Else2 (search) .if2 .left) (not-false _ (the tie.Else3 (search) .if3 .left)) (c .before .if4 .left)
+    (the tie.Else1 (search) .if1 .left) (the tie.Else2 (search) .if2 .left) (not-false _ (the tie.Else3 (search) .if3 .left)) (the tie.Else4 (search) .if4 .left)
 
 pub late-loss-spec : {M : Type 1} → statement M
 late-loss-spec =

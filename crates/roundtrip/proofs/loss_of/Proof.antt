@@ -12,12 +12,12 @@ use Rattle.roundtrip.proofs.loss_of.Tie as tie
 returns : tie.Need-returns
 returns c =
     let args = the tie.Start (search) .args in
-    λ o held. c .lost .ensures ∙ none-held (args .m) (args .head .now) (args .body .now) (sym (the tie.After-message-holds (search) .message-holds .ensures) ∙ not-true _ (c .before .if1 .taken)) o held
+    λ o held. c .lost .ensures ∙ none-held (args .m) (args .head .now) (args .body .now) (sym (the tie.After-message-holds (search) .message-holds .ensures) ∙ not-true _ (the tie.Then1 (search) .if1 .taken)) o held
 
 returns-2 : tie.Need-returns-2
 returns-2 c =
     let args = the tie.Start (search) .args in
-    λ o held. c .lost2 .ensures ∙ short-held (args .m) (args .head .now) (args .body .now) (c .before .if2 .taken) o held
+    λ o held. c .lost2 .ensures ∙ short-held (args .m) (args .head .now) (args .body .now) (the tie.Then2 (search) .if2 .taken) o held
 
 add-from : tie.Need-add-from
 add-from c =

@@ -31,17 +31,17 @@ answer c q h = placed-parts (sep-at c) (text-at c) (separator-long (c .args .crl
 
 -- the three cuts, each where it found a separator
 abbrev start2-at : tie.Else1 → ℕ
-start2-at c = c .before .cut-section .result .next
+start2-at c = the tie.After-cut-section (search) .cut-section .result .next
 
-one : (c : tie.Else1) → More (sep-at (search)) (text-at (search)) (drop (start2-at c) (text-at (search))) (c .before .cut-section .result)
-one c = cut-more (sep-at (search)) (text-at (search)) (c .before .cut-section .result) (separator-long (the tie.Start (search) .args .crlf)) (c .before .cut-section .ensures) (c .if1 .left)
+one : (c : tie.Else1) → More (sep-at (search)) (text-at (search)) (drop (start2-at c) (text-at (search))) (the tie.After-cut-section (search) .cut-section .result)
+one c = cut-more (sep-at (search)) (text-at (search)) (the tie.After-cut-section (search) .cut-section .result) (separator-long (the tie.Start (search) .args .crlf)) (the tie.After-cut-section (search) .cut-section .ensures) (c .if1 .left)
 
 abbrev start3-at : tie.Else2 → ℕ
-start3-at c = start2-at (search) + c .before .cut-section2 .result .next
+start3-at c = start2-at (search) + the tie.After-cut-section2 (search) .cut-section2 .result .next
 
-two : (c : tie.Else2) → More (sep-at (search)) (drop (start2-at (search)) (text-at (search))) (drop (start3-at c) (text-at (search))) (c .before .cut-section2 .result)
+two : (c : tie.Else2) → More (sep-at (search)) (drop (start2-at (search)) (text-at (search))) (drop (start3-at c) (text-at (search))) (the tie.After-cut-section2 (search) .cut-section2 .result)
 two c =
-    rest-more (sep-at (search)) (text-at (search)) (start2-at (search)) (c .before .cut-section2 .result) (c .before .cut-section2 .ensures)
+    rest-more (sep-at (search)) (text-at (search)) (start2-at (search)) (the tie.After-cut-section2 (search) .cut-section2 .result) (the tie.After-cut-section2 (search) .cut-section2 .ensures)
     (separator-long (the tie.Start (search) .args .crlf)) (c .if2 .left)
 
 start2-within : (c : tie.Else1) → start2-at c ≤ length (text-at (search))
@@ -54,17 +54,17 @@ abbrev start-before-cut-section2 : tie.After-cut-section2 → tie.Start
 start-before-cut-section2 p = search
 
 three : (c : tie.Else3)
-    → More (sep-at (start-before-cut-section2 (search))) (drop (start3-at (search)) (text-at (start-before-cut-section2 (search)))) (drop (start3-at (search) + c .before .cut-section3 .result .next) (text-at (start-before-cut-section2 (search)))) (c .before .cut-section3 .result)
+    → More (sep-at (start-before-cut-section2 (search))) (drop (start3-at (search)) (text-at (start-before-cut-section2 (search)))) (drop (start3-at (search) + the tie.After-cut-section3 (search) .cut-section3 .result .next) (text-at (start-before-cut-section2 (search)))) (the tie.After-cut-section3 (search) .cut-section3 .result)
 three c =
-    rest-more (sep-at (start-before-cut-section2 (search))) (text-at (start-before-cut-section2 (search))) (start3-at (search)) (c .before .cut-section3 .result) (c .before .cut-section3 .ensures)
+    rest-more (sep-at (start-before-cut-section2 (search))) (text-at (start-before-cut-section2 (search))) (start3-at (search)) (the tie.After-cut-section3 (search) .cut-section3 .result) (the tie.After-cut-section3 (search) .cut-section3 .ensures)
     (separator-long (start-before-cut-section2 (search) .args .crlf)) (c .if3 .left)
 
-rest-within : (c : tie.Else3) → start3-at (search) + c .before .cut-section3 .result .next ≤ length (text-at (start-before-cut-section2 (search)))
+rest-within : (c : tie.Else3) → start3-at (search) + the tie.After-cut-section3 (search) .cut-section3 .result .next ≤ length (text-at (start-before-cut-section2 (search)))
 rest-within c = omega (arith, three c .within, start3-within (search), length-drop (start3-at (search)) (text-at (start-before-cut-section2 (search))))
 
 returns : tie.Need-returns
 returns c =
-    answer (search) Few (few-one (sep-at (search)) (text-at (search)) (cut-last (sep-at (search)) (text-at (search)) (c .before .cut-section .result) (c .before .cut-section .ensures) (c .if1 .taken)))
+    answer (search) Few (few-one (sep-at (search)) (text-at (search)) (cut-last (sep-at (search)) (text-at (search)) (the tie.After-cut-section (search) .cut-section .result) (the tie.After-cut-section (search) .cut-section .ensures) (c .if1 .taken)))
 
 sub-cut-section : tie.Need-sub-cut-section
 sub-cut-section c = omega (arith, start2-within c)
@@ -78,7 +78,7 @@ returns-2 c =
     let sep = sep-at (search) in
     let at = start2-at (search) in
     answer (search) Few (few-two sep t (drop at t) (the tie.After-cut-section (search) .cut-section .result) (one (search))
-    (rest-last sep t at (c .before .cut-section2 .result) (c .before .cut-section2 .ensures) (c .if2 .taken)))
+    (rest-last sep t at (the tie.After-cut-section2 (search) .cut-section2 .result) (the tie.After-cut-section2 (search) .cut-section2 .ensures) (c .if2 .taken)))
 
 add-start3 : tie.Need-add-start3
 add-start3 c = record { fits = omega (arith, start3-within (search)) }
@@ -95,7 +95,7 @@ returns-3 c =
     let sep = sep-at (start-before-cut-section2 (search)) in
     let at = start3-at (search) in
     answer (start-before-cut-section2 (search)) Few (few-three sep t (drop (start2-at (search)) t) (the tie.After-cut-section (search) .cut-section .result) (one (search)) (drop at t) (the tie.After-cut-section2 (search) .cut-section2 .result) (two (search))
-    (rest-last sep t at (c .before .cut-section3 .result) (c .before .cut-section3 .ensures) (c .if3 .taken)))
+    (rest-last sep t at (the tie.After-cut-section3 (search) .cut-section3 .result) (the tie.After-cut-section3 (search) .cut-section3 .ensures) (c .if3 .taken)))
 
 add-t10 : tie.Need-add-t10
 add-t10 c = record { fits = omega (arith, start3-within (search), two (search) .behind) }

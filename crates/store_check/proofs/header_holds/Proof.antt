@@ -21,11 +21,11 @@ use Rattle.store_check.proofs.header_holds.Tie as tie
 sized : (c : tie.Else1) → Sized (the tie.Start (search) .args .h) (length (the tie.Start (search) .args .store .now))
 sized c =
     let args = the tie.Start (search) .args in
-    sizes-parts (args .h) (length (args .store .now)) (sym (c .before .sizes-hold .ensures) ∙ not-false _ (c .if1 .left))
+    sizes-parts (args .h) (length (args .store .now)) (sym (the tie.After-sizes-hold (search) .sizes-hold .ensures) ∙ not-false _ (c .if1 .left))
 
 returns : tie.Need-returns
 unfolding headerHolds
-returns c = fails _ _ (c .before .sizes-hold .ensures) (c .if1 .taken)
+returns c = fails _ _ (the tie.After-sizes-hold (search) .sizes-hold .ensures) (c .if1 .taken)
 
 slice-aggregate-is-zero : tie.Need-slice-aggregate-is-zero
 slice-aggregate-is-zero c = simp length-take (omega (arith, sized (search) .whole, sized (search) .used))
@@ -33,7 +33,7 @@ slice-aggregate-is-zero c = simp length-take (omega (arith, sized (search) .whol
 returns-2 : tie.Need-returns-2
 unfolding headerHolds
 returns-2 c =
-    fails _ _ (c .before .is-zero .ensures) (c .if2 .taken)
+    fails _ _ (the tie.After-is-zero (search) .is-zero .ensures) (c .if2 .taken)
     ∙ goes-on _ _ (the tie.After-sizes-hold (search) .sizes-hold .ensures) (the tie.Else1 (search) .if1 .left)
 
 add-from : tie.Need-add-from
@@ -52,7 +52,7 @@ returns-3 : tie.Need-returns-3
 unfolding headerHolds valueCheck
 returns-3 c =
     let args = the tie.Start (search) .args in
-    fails _ _ (c .before .value-passes .ensures ∙ ap (λ (x : Bytes). passes (valueCheck Header x)) (part-of 16 (args .h .valuelen) (args .store .now))) (c .if3 .taken)
+    fails _ _ (the tie.After-value-passes (search) .value-passes .ensures ∙ ap (λ (x : Bytes). passes (valueCheck Header x)) (part-of 16 (args .h .valuelen) (args .store .now))) (c .if3 .taken)
     ∙ goes-on _ _ (the tie.After-is-zero (search) .is-zero .ensures) (the tie.Else2 (search) .if2 .left)
     ∙ goes-on _ _ (the tie.After-sizes-hold (search) .sizes-hold .ensures) (the tie.Else1 (search) .if1 .left)
 
@@ -60,7 +60,7 @@ returns-4 : tie.Need-returns-4
 unfolding headerHolds valueCheck
 returns-4 c =
     let args = the tie.Start (search) .args in
-    fails _ _ (c .before .is-utf8 .ensures ∙ ap isUtf8 (part-of 16 (args .h .valuelen) (args .store .now))) (c .if4 .taken)
+    fails _ _ (the tie.After-is-utf8 (search) .is-utf8 .ensures ∙ ap isUtf8 (part-of 16 (args .h .valuelen) (args .store .now))) (c .if4 .taken)
     ∙ goes-on _ _ (the tie.After-value-passes (search) .value-passes .ensures ∙ ap (λ (x : Bytes). passes (valueCheck Header x)) (part-of 16 (args .h .valuelen) (args .store .now))) (the tie.Else3 (search) .if3 .left)
     ∙ goes-on _ _ (the tie.After-is-zero (search) .is-zero .ensures) (the tie.Else2 (search) .if2 .left)
     ∙ goes-on _ _ (the tie.After-sizes-hold (search) .sizes-hold .ensures) (the tie.Else1 (search) .if1 .left)

@@ -19,11 +19,11 @@ use Rattle.store_check.proofs.message_holds.Tie as tie
 numbered : (c : tie.Else1) → Numbered (the tie.Start (search) .args .m) (length (the tie.Start (search) .args .head .now))
 numbered c =
     let args = the tie.Start (search) .args in
-    numbers-parts (args .m) (length (args .head .now)) (sym (c .before .numbers-hold .ensures) ∙ not-false _ (c .if1 .left))
+    numbers-parts (args .m) (length (args .head .now)) (sym (the tie.After-numbers-hold (search) .numbers-hold .ensures) ∙ not-false _ (c .if1 .left))
 
 returns : tie.Need-returns
 unfolding messageHolds
-returns c = fails _ _ (c .before .numbers-hold .ensures) (c .if1 .taken)
+returns c = fails _ _ (the tie.After-numbers-hold (search) .numbers-hold .ensures) (c .if1 .taken)
 
 slice-aggregate-type-holds : tie.Need-slice-aggregate-type-holds
 slice-aggregate-type-holds c = simp length-take (omega (arith, numbered (search) .start))
@@ -34,7 +34,7 @@ type-holds-requires c κs = simp length-take (omega (arith, numbered (search) .s
 returns-2 : tie.Need-returns-2
 unfolding messageHolds
 returns-2 c =
-    fails _ _ (c .before .type-holds .ensures) (c .if2 .taken)
+    fails _ _ (the tie.After-type-holds (search) .type-holds .ensures) (c .if2 .taken)
     ∙ goes-on _ _ (the tie.After-numbers-hold (search) .numbers-hold .ensures) (the tie.Else1 (search) .if1 .left)
 
 add-from : tie.Need-add-from
@@ -57,7 +57,7 @@ unfolding messageHolds
 returns-3 c =
     let args = the tie.Start (search) .args in
     let m = args .m in
-    fails _ _ (c .before .headers-hold .ensures ∙ ap (headersHold (m .headers)) (part-of 256 (m .headerlen) (args .head .now))) (c .if3 .taken)
+    fails _ _ (the tie.After-headers-hold (search) .headers-hold .ensures ∙ ap (headersHold (m .headers)) (part-of 256 (m .headerlen) (args .head .now))) (c .if3 .taken)
     ∙ goes-on _ _ (the tie.After-type-holds (search) .type-holds .ensures) (the tie.Else2 (search) .if2 .left)
     ∙ goes-on _ _ (the tie.After-numbers-hold (search) .numbers-hold .ensures) (the tie.Else1 (search) .if1 .left)
 

@@ -13,7 +13,8 @@ use Rattle.store_check.proofs.numbers_hold.Tie as tie
 returns : tie.Need-returns
 unfolding numbersHold
 returns c =
-    let store = c .before .args .store in
+    let start : tie.Start = search in
+    let store = start .args .store in
     rw (lt-leb 256 store (omega arith)) refl
 
 returns-2 : tie.Need-returns-2

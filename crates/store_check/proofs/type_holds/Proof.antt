@@ -23,7 +23,7 @@ returns c = number-fails _ _ _ (the tie.After-validate-content-type (search) .va
 returns-2 : tie.Need-returns-2
 unfolding typeHolds
 returns-2 c =
-    fails _ _ (c .before .is-utf8 .ensures) (c .if2 .taken)
+    fails _ _ (the tie.After-is-utf8 (search) .is-utf8 .ensures) (c .if2 .taken)
     ∙ number-on _ _ _ (the tie.After-validate-content-type (search) .validate-content-type .ensures) (the tie.Else1 (search) .if1 .left)
 
 returns-3 : tie.Need-returns-3

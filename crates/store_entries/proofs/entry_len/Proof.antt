@@ -10,7 +10,7 @@ use Rattle.store_entries.proofs.entry_len.Tie as tie
 returns : tie.Need-returns
 returns c =
     let n = the tie.After-name-len (search) .name-len .ensures in
-    let v = c .before .value-len .ensures in
+    let v = the tie.After-value-len (search) .value-len .ensures in
     let t = c .tail-len .ensures in
     (size-of _ _ _ _ (n .0) (v .0) (t .0), omega (arith, n .1, v .1, t .1), v .2, t .2)
 

@@ -25,15 +25,16 @@ returns-2 c =
     let start : tie.Start = search in
     let s = start .args .s .now in
     let at = start .args .at in
-    sym (zeros-shaped (drop at s) (sym (c .before .is-zero .ensures ∙ ap (all (eqb 0)) (zero-part s at)) ∙ not-true _ (c .if2 .taken)))
+    sym (zeros-shaped (drop at s) (sym (the tie.After-is-zero (search) .is-zero .ensures ∙ ap (all (eqb 0)) (zero-part s at)) ∙ not-true _ (c .if2 .taken)))
 
 returns-3 : tie.Need-returns-3
 returns-3 c =
+    let at-else2 : tie.Else2 = search in
     let start : tie.Start = search in
     let s = start .args .s .now in
     let at = start .args .at in
     let size = c .entry-len .ensures in
-    let zeros = sym (the tie.After-is-zero (search) .is-zero .ensures ∙ ap (all (eqb 0)) (zero-part s at)) ∙ not-false _ (c .before .if2 .left) in
+    let zeros = sym (the tie.After-is-zero (search) .is-zero .ensures ∙ ap (all (eqb 0)) (zero-part s at)) ∙ not-false _ (at-else2 .if2 .left) in
     ap (λ (n : ℕ). leb n (length s - at)) (size .0)
     ∙ ap (leb (sizeIn (drop at s))) (sym (length-drop at s))
     ∙ whole-shaped (drop at s) (rw (length-drop at s) (omega arith)) zeros (size .2) (size .3)

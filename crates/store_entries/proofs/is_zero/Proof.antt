@@ -7,6 +7,7 @@ use borrow.Author.Needs.{needs}
 use mathlib.Core.Bool.{_&&_}
 use lib.Dec.{eqb}
 use Rattle.format.specs.Bytes.{all}
+use Rattle.format.proofs.Typed.{the}
 use Rattle.store_entries.proofs.Zeros.{all-step, all-end}
 use Rattle.store_entries.proofs.is_zero.Statement.{statement}
 use Rattle.store_entries.proofs.is_zero.Tie as tie
@@ -23,13 +24,13 @@ loop-holds c = (omega arith, refl)
 loop-again : tie.Need-loop-again Inv-loop μ-loop
 loop-again c =
     let at-loop : tie.At-loop Inv-loop μ-loop = search in
-    let s = at-loop .before .args .s .now in
+    let s = the (tie.Start Inv-loop μ-loop) (search) .args .s .now in
     (omega arith, at-loop .loop .inv .1 ∙ all-step (eqb 0) s (at-loop .loop .i) (at-loop .loop .zero) (omega arith))
 
 returns : tie.Need-returns Inv-loop μ-loop
 returns c =
     let at-loop : tie.At-loop Inv-loop μ-loop = search in
-    let s = at-loop .before .args .s .now in
+    let s = the (tie.Start Inv-loop μ-loop) (search) .args .s .now in
     sym (at-loop .loop .inv .1 ∙ all-end (eqb 0) s (at-loop .loop .i) (at-loop .loop .zero) (omega arith))
 
 pub is-zero-spec : {M : Type 1} → statement M

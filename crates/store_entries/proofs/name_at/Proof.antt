@@ -2,6 +2,7 @@
 use Prim.Native.Nat.{_-_}
 use native.Mathlib.Omega.{arith}
 use borrow.Author.Needs.{needs}
+use Rattle.format.proofs.Typed.{the}
 use Rattle.store_entries.proofs.EntryShape.{within-numbers, within-parts, name-part}
 use Rattle.store_entries.proofs.name_at.Statement.{statement}
 use Rattle.store_entries.proofs.name_at.Tie as tie
@@ -39,7 +40,7 @@ returns c =
     let start : tie.Start = search in
     let s = start .args .s .now in
     let at = start .args .at in
-    name-part s at (c .before .name-len .result) (c .before .name-len .ensures .0)
+    name-part s at (the tie.After-name-len (search) .name-len .result) (the tie.After-name-len (search) .name-len .ensures .0)
 
 pub name-at-spec : {M : Type 1} → statement M
 name-at-spec =

@@ -26,21 +26,21 @@ add-from c =
     let start : tie.Start = search in
     let s = start .args .s .now in
     let at = start .args .at in
-    omega (arith, within-parts s at (start .pre), c .before .name-len .ensures .0, c .value-len .ensures .0)
+    omega (arith, within-parts s at (start .pre), the tie.After-name-len (search) .name-len .ensures .0, c .value-len .ensures .0)
 
 add-from-2 : tie.Need-add-from-2
 add-from-2 c =
     let start : tie.Start = search in
     let s = start .args .s .now in
     let at = start .args .at in
-    omega (arith, within-parts s at (start .pre), c .before .name-len .ensures .0, c .value-len .ensures .0)
+    omega (arith, within-parts s at (start .pre), the tie.After-name-len (search) .name-len .ensures .0, c .value-len .ensures .0)
 
 add-from-3 : tie.Need-add-from-3
 add-from-3 c =
     let start : tie.Start = search in
     let s = start .args .s .now in
     let at = start .args .at in
-    omega (arith, within-parts s at (start .pre), c .before .name-len .ensures .0, c .value-len .ensures .0)
+    omega (arith, within-parts s at (start .pre), the tie.After-name-len (search) .name-len .ensures .0, c .value-len .ensures .0)
 
 tail-len-requires : tie.Need-tail-len-requires
 tail-len-requires c κs =
@@ -54,21 +54,21 @@ add-to c =
     let start : tie.Start = search in
     let s = start .args .s .now in
     let at = start .args .at in
-    omega (arith, within-parts s at (start .pre), the tie.After-name-len (search) .name-len .ensures .0, c .before .value-len .ensures .0, c .tail-len .ensures .0)
+    omega (arith, within-parts s at (start .pre), the tie.After-name-len (search) .name-len .ensures .0, the tie.After-value-len (search) .value-len .ensures .0, c .tail-len .ensures .0)
 
 part-result-end : tie.Need-part-result-end
 part-result-end c =
     let start : tie.Start = search in
     let s = start .args .s .now in
     let at = start .args .at in
-    omega (arith, within-parts s at (start .pre), the tie.After-name-len (search) .name-len .ensures .0, c .before .value-len .ensures .0, c .tail-len .ensures .0)
+    omega (arith, within-parts s at (start .pre), the tie.After-name-len (search) .name-len .ensures .0, the tie.After-value-len (search) .value-len .ensures .0, c .tail-len .ensures .0)
 
 returns : tie.Need-returns
 returns c =
     let start : tie.Start = search in
     let s = start .args .s .now in
     let at = start .args .at in
-    tail-part s at (the tie.After-name-len (search) .name-len .result) (the tie.After-name-len (search) .name-len .ensures .0) (the tie.After-value-len (search) .value-len .result) (the tie.After-value-len (search) .value-len .ensures .0) (c .before .tail-len .result) (c .before .tail-len .ensures .0)
+    tail-part s at (the tie.After-name-len (search) .name-len .result) (the tie.After-name-len (search) .name-len .ensures .0) (the tie.After-value-len (search) .value-len .result) (the tie.After-value-len (search) .value-len .ensures .0) (the tie.After-tail-len (search) .tail-len .result) (the tie.After-tail-len (search) .tail-len .ensures .0)
 
 pub tail-at-spec : {M : Type 1} → statement M
 tail-at-spec =

@@ -40,21 +40,21 @@ add-to c =
     let start : tie.Start = search in
     let s = start .args .s .now in
     let at = start .args .at in
-    omega (arith, within-parts s at (start .pre), c .before .name-len .ensures .0, c .value-len .ensures .0)
+    omega (arith, within-parts s at (start .pre), the tie.After-name-len (search) .name-len .ensures .0, c .value-len .ensures .0)
 
 part-result-end : tie.Need-part-result-end
 part-result-end c =
     let start : tie.Start = search in
     let s = start .args .s .now in
     let at = start .args .at in
-    omega (arith, within-parts s at (start .pre), c .before .name-len .ensures .0, c .value-len .ensures .0)
+    omega (arith, within-parts s at (start .pre), the tie.After-name-len (search) .name-len .ensures .0, c .value-len .ensures .0)
 
 returns : tie.Need-returns
 returns c =
     let start : tie.Start = search in
     let s = start .args .s .now in
     let at = start .args .at in
-    value-part s at (the tie.After-name-len (search) .name-len .result) (the tie.After-name-len (search) .name-len .ensures .0) (c .before .value-len .result) (c .before .value-len .ensures .0)
+    value-part s at (the tie.After-name-len (search) .name-len .result) (the tie.After-name-len (search) .name-len .ensures .0) (the tie.After-value-len (search) .value-len .result) (the tie.After-value-len (search) .value-len .ensures .0)
 
 pub value-at-spec : {M : Type 1} → statement M
 value-at-spec =

@@ -16,17 +16,17 @@ abbrev μ-loop : tie.MeasureT-loop
 
 loop-holds : tie.Need-loop-holds Inv-loop μ-loop
 loop-holds c =
-    let args = c .before .args in
+    let args = the (tie.Start Inv-loop μ-loop) (search) .args in
     judged-start (args .kind) (args .s .now) (args .count)
 
 sub-entry-holds : tie.Need-sub-entry-holds Inv-loop μ-loop
-sub-entry-holds c = c .before .loop .inv .name-start
+sub-entry-holds c = the (tie.At-loop Inv-loop μ-loop) (search) .loop .inv .name-start
 
 part-entry-holds-start : tie.Need-part-entry-holds-start Inv-loop μ-loop
-part-entry-holds-start c = c .before .loop .inv .name-start
+part-entry-holds-start c = the (tie.At-loop Inv-loop μ-loop) (search) .loop .inv .name-start
 
 part-entry-holds-end : tie.Need-part-entry-holds-end Inv-loop μ-loop
-part-entry-holds-end c = c .before .loop .inv .name-end
+part-entry-holds-end c = the (tie.At-loop Inv-loop μ-loop) (search) .loop .inv .name-end
 
 entry-holds-requires : tie.Need-entry-holds-requires Inv-loop μ-loop
 entry-holds-requires c κs =
@@ -38,35 +38,35 @@ returns c =
     let at-loop : tie.At-loop Inv-loop μ-loop = search in
     let args = the (tie.Start Inv-loop μ-loop) (search) .args in
     let l = at-loop .loop in
-    judged-stop (args .kind) (args .s .now) (args .count) (l .at) (l .from) (l .to) (l .i) (l .inv) (omega arith) (sym (c .before .entry-holds .ensures) ∙ not-true _ (c .if1 .taken))
+    judged-stop (args .kind) (args .s .now) (args .count) (l .at) (l .from) (l .to) (l .i) (l .inv) (omega arith) (sym (the (tie.After-entry-holds Inv-loop μ-loop) (search) .entry-holds .ensures) ∙ not-true _ (c .if1 .taken))
 
 add-from : tie.Need-add-from Inv-loop μ-loop
 add-from c =
     let at-loop : tie.At-loop Inv-loop μ-loop = search in
     let args = the (tie.Start Inv-loop μ-loop) (search) .args in
     let l = at-loop .loop in
-    omega (arith, judged-numbers (args .kind) (args .s .now) (args .count) (l .at) (l .from) (l .to) (l .i) (l .inv) (omega arith) (sym (c .before .entry-holds .ensures) ∙ not-false _ (c .if1 .left)))
+    omega (arith, judged-numbers (args .kind) (args .s .now) (args .count) (l .at) (l .from) (l .to) (l .i) (l .inv) (omega arith) (sym (the (tie.After-entry-holds Inv-loop μ-loop) (search) .entry-holds .ensures) ∙ not-false _ (c .if1 .left)))
 
 name-len-requires : tie.Need-name-len-requires Inv-loop μ-loop
 name-len-requires c κs =
     let at-loop : tie.At-loop Inv-loop μ-loop = search in
     let args = the (tie.Start Inv-loop μ-loop) (search) .args in
     let l = at-loop .loop in
-    judged-numbers (args .kind) (args .s .now) (args .count) (l .at) (l .from) (l .to) (l .i) (l .inv) (omega arith) (sym (c .before .entry-holds .ensures) ∙ not-false _ (c .if1 .left))
+    judged-numbers (args .kind) (args .s .now) (args .count) (l .at) (l .from) (l .to) (l .i) (l .inv) (omega arith) (sym (the (tie.After-entry-holds Inv-loop μ-loop) (search) .entry-holds .ensures) ∙ not-false _ (c .if1 .left))
 
 add-to : tie.Need-add-to Inv-loop μ-loop
 add-to c =
     let at-loop : tie.At-loop Inv-loop μ-loop = search in
     let args = the (tie.Start Inv-loop μ-loop) (search) .args in
     let l = at-loop .loop in
-    omega (arith, judged-name (args .kind) (args .s .now) (args .count) (l .at) (l .from) (l .to) (l .i) (l .inv) (omega arith) (sym (the (tie.After-entry-holds Inv-loop μ-loop) (search) .entry-holds .ensures) ∙ not-false _ (c .before .if1 .left)), c .name-len .ensures .0)
+    omega (arith, judged-name (args .kind) (args .s .now) (args .count) (l .at) (l .from) (l .to) (l .i) (l .inv) (omega arith) (sym (the (tie.After-entry-holds Inv-loop μ-loop) (search) .entry-holds .ensures) ∙ not-false _ (the (tie.Else1 Inv-loop μ-loop) (search) .if1 .left)), c .name-len .ensures .0)
 
 entry-len-requires : tie.Need-entry-len-requires Inv-loop μ-loop
 entry-len-requires c κs =
     let at-loop : tie.At-loop Inv-loop μ-loop = search in
     let args = the (tie.Start Inv-loop μ-loop) (search) .args in
     let l = at-loop .loop in
-    judged-numbers (args .kind) (args .s .now) (args .count) (l .at) (l .from) (l .to) (l .i) (l .inv) (omega arith) (sym (the (tie.After-entry-holds Inv-loop μ-loop) (search) .entry-holds .ensures) ∙ not-false _ (c .before .if1 .left))
+    judged-numbers (args .kind) (args .s .now) (args .count) (l .at) (l .from) (l .to) (l .i) (l .inv) (omega arith) (sym (the (tie.After-entry-holds Inv-loop μ-loop) (search) .entry-holds .ensures) ∙ not-false _ (the (tie.Else1 Inv-loop μ-loop) (search) .if1 .left))
 
 add-at : tie.Need-add-at Inv-loop μ-loop
 add-at c =
@@ -83,10 +83,11 @@ loop-less c = omega arith
 
 loop-again : tie.Need-loop-again Inv-loop μ-loop
 loop-again c =
+    let at-name-len : tie.After-name-len Inv-loop μ-loop = search in
     let at-loop : tie.At-loop Inv-loop μ-loop = search in
     let args = the (tie.Start Inv-loop μ-loop) (search) .args in
     let l = at-loop .loop in
-    rw (c .before .name-len .ensures .0, c .entry-len .ensures .0) (judged-on (args .kind) (args .s .now) (args .count) (l .at) (l .from) (l .to) (l .i) (l .inv) (omega arith) (sym (the (tie.After-entry-holds Inv-loop μ-loop) (search) .entry-holds .ensures) ∙ not-false _ (the (tie.Else1 Inv-loop μ-loop) (search) .if1 .left)))
+    rw (at-name-len .name-len .ensures .0, c .entry-len .ensures .0) (judged-on (args .kind) (args .s .now) (args .count) (l .at) (l .from) (l .to) (l .i) (l .inv) (omega arith) (sym (the (tie.After-entry-holds Inv-loop μ-loop) (search) .entry-holds .ensures) ∙ not-false _ (the (tie.Else1 Inv-loop μ-loop) (search) .if1 .left)))
 
 returns-2 : tie.Need-returns-2 Inv-loop μ-loop
 returns-2 c =

@@ -11,13 +11,13 @@ use Rattle.store_entry_check.proofs.entry_fits.Statement.{statement}
 use Rattle.store_entry_check.proofs.entry_fits.Tie as tie
 
 name-at-requires : tie.Need-name-at-requires
-name-at-requires c κs = c .before .pre .1
+name-at-requires c κs = the tie.Start (search) .pre .1
 
 returns : tie.Need-returns
 returns c =
     let start : tie.Start = search in
     let t = drop (start .args .at) (start .args .s .now) in
-    fails _ _ (c .before .name-fits .ensures) (c .if1 .taken)
+    fails _ _ (the tie.After-name-fits (search) .name-fits .ensures) (c .if1 .taken)
     ∙ fits-read (start .args .kind) t _ (valueIn t) (tailIn t) (paramCount t) (the tie.After-name-at (search) .name-at .ensures) refl refl refl
 
 value-at-requires : tie.Need-value-at-requires
@@ -27,7 +27,7 @@ returns-2 : tie.Need-returns-2
 returns-2 c =
     let start : tie.Start = search in
     let t = drop (start .args .at) (start .args .s .now) in
-    fails _ _ (c .before .value-fits .ensures) (c .if2 .taken)
+    fails _ _ (the tie.After-value-fits (search) .value-fits .ensures) (c .if2 .taken)
     ∙ goes-on _ _ (the tie.After-name-fits (search) .name-fits .ensures) (the tie.Else1 (search) .if1 .left)
     ∙ fits-read (start .args .kind) t _ _ (tailIn t) (paramCount t) (the tie.After-name-at (search) .name-at .ensures) (the tie.After-value-at (search) .value-at .ensures) refl refl
 
@@ -45,9 +45,9 @@ returns-3 c =
     let start : tie.Start = search in
     let t = drop (start .args .at) (start .args .s .now) in
     c .params-fit .ensures
-    ∙ goes-on _ _ (passed .before .value-fits .ensures) (passed .if2 .left)
+    ∙ goes-on _ _ (the tie.After-value-fits (search) .value-fits .ensures) (passed .if2 .left)
     ∙ goes-on _ _ (the tie.After-name-fits (search) .name-fits .ensures) (the tie.Else1 (search) .if1 .left)
-    ∙ fits-read (start .args .kind) t _ _ _ _ (the tie.After-name-at (search) .name-at .ensures) (the tie.After-value-at (search) .value-at .ensures) (the tie.After-param-count (search) .param-count .ensures .0) (c .before .tail-at .ensures)
+    ∙ fits-read (start .args .kind) t _ _ _ _ (the tie.After-name-at (search) .name-at .ensures) (the tie.After-value-at (search) .value-at .ensures) (the tie.After-param-count (search) .param-count .ensures .0) (the tie.After-tail-at (search) .tail-at .ensures)
 
 pub entry-fits-spec : {M : Type 1} → statement M
 entry-fits-spec =

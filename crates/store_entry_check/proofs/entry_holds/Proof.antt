@@ -11,15 +11,15 @@ use Rattle.store_entry_check.proofs.entry_holds.Tie as tie
 
 returns : tie.Need-returns
 unfolding entryHolds
-returns c = fails _ _ (c .before .is-shaped .ensures) (c .if1 .taken)
+returns c = fails _ _ (the tie.After-is-shaped (search) .is-shaped .ensures) (c .if1 .taken)
 
 entry-fits-requires : tie.Need-entry-fits-requires
-entry-fits-requires c κs = (the tie.Start (search) .pre .0, sym (c .before .is-shaped .ensures) ∙ not-false _ (c .if1 .left))
+entry-fits-requires c κs = (the tie.Start (search) .pre .0, sym (the tie.After-is-shaped (search) .is-shaped .ensures) ∙ not-false _ (c .if1 .left))
 
 returns-2 : tie.Need-returns-2
 unfolding entryHolds
 returns-2 c =
-    fails _ _ (c .before .entry-fits .ensures) (c .if2 .taken)
+    fails _ _ (the tie.After-entry-fits (search) .entry-fits .ensures) (c .if2 .taken)
     ∙ goes-on _ _ (the tie.After-is-shaped (search) .is-shaped .ensures) (the tie.Else1 (search) .if1 .left)
 
 name-at-requires : tie.Need-name-at-requires
@@ -30,7 +30,7 @@ unfolding entryHolds
 returns-3 c =
     let args = the tie.Start (search) .args in
     c .name-follows .ensures
-    ∙ ap (follows (args .kind) (args .last .now)) (c .before .name-at .ensures)
+    ∙ ap (follows (args .kind) (args .last .now)) (the tie.After-name-at (search) .name-at .ensures)
     ∙ goes-on _ _ (the tie.After-entry-fits (search) .entry-fits .ensures) (the tie.Else2 (search) .if2 .left)
     ∙ goes-on _ _ (the tie.After-is-shaped (search) .is-shaped .ensures) (the tie.Else1 (search) .if1 .left)
 

@@ -6,21 +6,21 @@ use borrow.Author.Tests.{not-false}
 use Rattle.format.proofs.Typed.{the}
 use Rattle.store_entry_check.specs.EntriesHold.{headersHold}
 use Rattle.store_entry_check.specs.declared.kinds.Kind.the-variants.{Header}
-use Rattle.store_entry_check.proofs.EntriesCheck.{holds-shaped}
+use Rattle.store_entry_check.proofs.EntriesListed.{holds-shaped}
 use Rattle.store_entry_check.proofs.InTurn.{fails, goes-on}
 use Rattle.store_entry_check.proofs.headers_hold.Statement.{statement}
 use Rattle.store_entry_check.proofs.headers_hold.Tie as tie
 
 returns : tie.Need-returns
 unfolding headersHold
-returns c = fails _ _ (c .before .entries-hold-in .ensures) (c .if1 .taken)
+returns c = fails _ _ (the tie.After-entries-hold-in (search) .entries-hold-in .ensures) (c .if1 .taken)
 
 tails-hold-requires : tie.Need-tails-hold-requires
 tails-hold-requires c κs =
     let held : tie.After-entries-hold-in = search in
     let made : tie.After-table = search in
     let args = the tie.Start (search) .args in
-    (made .table .ensures, holds-shaped Header (args .count) [] (args .s .now) (sym (held .entries-hold-in .ensures) ∙ not-false _ (c .before .if1 .left)))
+    (made .table .ensures, holds-shaped Header (args .count) [] (args .s .now) (sym (held .entries-hold-in .ensures) ∙ not-false _ (the tie.Else1 (search) .if1 .left)))
 
 returns-2 : tie.Need-returns-2
 unfolding headersHold

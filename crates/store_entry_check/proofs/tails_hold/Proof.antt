@@ -41,7 +41,7 @@ returns c =
     let at-loop : tie.At-loop Inv-loop μ-loop = search in
     let args = the (tie.Start Inv-loop μ-loop) (search) .args in
     let l = at-loop .loop in
-    looked-stop (args .s .now) (args .count) (l .at) (l .i) (l .inv) (omega arith) (tail-read (drop (l .at) (args .s .now)) _ _ _ (the (tie.After-tail-at Inv-loop μ-loop) (search) .tail-at .ensures) (the (tie.After-param-count Inv-loop μ-loop) (search) .param-count .ensures .0) (c .before .entries-hold-in .ensures) ∙ not-true _ (c .if1 .taken))
+    looked-stop (args .s .now) (args .count) (l .at) (l .i) (l .inv) (omega arith) (tail-read (drop (l .at) (args .s .now)) _ _ _ (the (tie.After-tail-at Inv-loop μ-loop) (search) .tail-at .ensures) (the (tie.After-param-count Inv-loop μ-loop) (search) .param-count .ensures .0) (the (tie.After-entries-hold-in Inv-loop μ-loop) (search) .entries-hold-in .ensures) ∙ not-true _ (c .if1 .taken))
 
 entry-len-requires : tie.Need-entry-len-requires Inv-loop μ-loop
 entry-len-requires c κs =
@@ -65,10 +65,11 @@ loop-less c = omega arith
 
 loop-again : tie.Need-loop-again Inv-loop μ-loop
 loop-again c =
+    let at-else1 : tie.Else1 Inv-loop μ-loop = search in
     let at-loop : tie.At-loop Inv-loop μ-loop = search in
     let args = the (tie.Start Inv-loop μ-loop) (search) .args in
     let l = at-loop .loop in
-    rw (c .entry-len .ensures .0) (looked-on (args .s .now) (args .count) (l .at) (l .i) (l .inv) (omega arith) (tail-read (drop (l .at) (args .s .now)) _ _ _ (the (tie.After-tail-at Inv-loop μ-loop) (search) .tail-at .ensures) (the (tie.After-param-count Inv-loop μ-loop) (search) .param-count .ensures .0) (the (tie.After-entries-hold-in Inv-loop μ-loop) (search) .entries-hold-in .ensures) ∙ not-false _ (c .before .if1 .left)))
+    rw (c .entry-len .ensures .0) (looked-on (args .s .now) (args .count) (l .at) (l .i) (l .inv) (omega arith) (tail-read (drop (l .at) (args .s .now)) _ _ _ (the (tie.After-tail-at Inv-loop μ-loop) (search) .tail-at .ensures) (the (tie.After-param-count Inv-loop μ-loop) (search) .param-count .ensures .0) (the (tie.After-entries-hold-in Inv-loop μ-loop) (search) .entries-hold-in .ensures) ∙ not-false _ (at-else1 .if1 .left)))
 
 returns-2 : tie.Need-returns-2 Inv-loop μ-loop
 returns-2 c =

@@ -9,19 +9,16 @@ use Rattle.store_splice.specs.declared.Notation.{Notation}
 use Rattle.store_splice.proofs.put_value.Statement.{statement}
 use Rattle.store_splice.proofs.put_value.Tie as tie
 
-enum-told : tie.Need-enum-told
-enum-told c = search needs
-
 copy-at-requires : tie.Need-copy-at-requires
 copy-at-requires c κs =
     let start : tie.Start = search in
-    omega (arith, start .pre .1, ap (λ (n : Notation). length (valueRead n (start .args .text .now))) (c .before .enum-told .given .1))
+    omega (arith, start .pre .1, ap (λ (n : Notation). length (valueRead n (start .args .text .now))) (the tie.After-enum-told (search) .enum-told .given .1))
 
 unescape-header-value-requires : tie.Need-unescape-header-value-requires
 unescape-header-value-requires c κs =
     let start : tie.Start = search in
     let text = start .args .text .now in
-    let told = c .before .enum-told2 .given .1 in
+    let told = the tie.After-enum-told2 (search) .enum-told2 .given .1 in
     (sym (ap (λ (n : Notation). reads n text) told) ∙ start .pre .0, omega (arith, start .pre .1, ap (λ (n : Notation). length (valueRead n text)) told))
 
 returns : tie.Need-returns
@@ -33,4 +30,4 @@ returns-2 c = rw (the tie.After-enum-told2 (search) .enum-told2 .given .1) (the 
 pub put-value-spec : {M : Type 1} → statement M
 put-value-spec =
     tie.close
-    (tie.spec enum-told copy-at-requires (λ c. search needs) unescape-header-value-requires (λ c. search needs) returns (λ c. search needs) returns-2)
+    (tie.spec (λ c. search needs) copy-at-requires (λ c. search needs) unescape-header-value-requires (λ c. search needs) returns (λ c. search needs) returns-2)

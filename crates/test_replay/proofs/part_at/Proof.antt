@@ -4,6 +4,7 @@ use mathlib.Core.Path.{_≡_, refl}
 use mathlib.Core.Bool.{Bool, true, false}
 use Rattle.calls_script.specs.Script.{endOf}
 use borrow.Author.Needs.{needs}
+use Rattle.format.proofs.Typed.{the}
 use Rattle.test_replay.proofs.part_at.Statement.{statement}
 use Rattle.test_replay.proofs.part_at.Tie as tie
 
@@ -14,7 +15,7 @@ is-whole true n r e h = refl
 is-whole false n r e h = absurd (h e)
 
 argument-at-requires : tie.Need-argument-at-requires
-argument-at-requires c κs = is-whole _ _ (c .before .argument-end .result) (c .before .argument-end .ensures) (c .if2 .left)
+argument-at-requires c κs = is-whole _ _ (the tie.After-argument-end (search) .argument-end .result) (the tie.After-argument-end (search) .argument-end .ensures) (c .if2 .left)
 
 pub part-at-spec : {M : Type 1} → statement M
 part-at-spec =

@@ -22,7 +22,7 @@ loop-again : tie.Need-loop-again Inv-loop μ-loop
 loop-again c = the (tie.After-add Inv-loop μ-loop) (search) .add .kept .0 ∙ the (tie.At-loop Inv-loop μ-loop) (search) .loop .inv
 
 same-length : tie.Need-same-length Inv-loop μ-loop
-same-length c = c .before .loop .inv
+same-length c = the (tie.At-loop Inv-loop μ-loop) (search) .loop .inv
 
 pub add-times-spec : {M : Type 1} → statement M
 add-times-spec =

@@ -122,9 +122,6 @@ add-escape-at c = omega (arith, within (search))
 escape-at-requires : tie.Need-escape-at-requires Inv-loop μ-loop
 escape-at-requires c κs = omega (arith, within (search))
 
-enum-told : tie.Need-enum-told Inv-loop μ-loop
-enum-told c = search needs
-
 same-length-2 : tie.Need-same-length-2 Inv-loop μ-loop
 same-length-2 c = kept (search)
 
@@ -225,5 +222,5 @@ pub unescape-header-value-spec : {M : Type 1} → statement M
 unescape-header-value-spec =
     tie.close
     (tie.spec Inv-loop μ-loop loop-holds (λ c. search needs) (λ c. search needs) (λ c. search needs) (λ c κs. search needs) add-end
-    (λ c. search needs) (λ c. search needs) part-copy-at-end copy-at-requires add-to same-length returns add-escape-at escape-at-requires enum-told
+    (λ c. search needs) (λ c. search needs) part-copy-at-end copy-at-requires add-to same-length returns add-escape-at escape-at-requires (λ c. search needs)
     same-length-2 returns-2 (λ c. search needs) put-code-requires (λ c κs. search needs) add-to-2 add-i add-i-2 loop-less loop-again)

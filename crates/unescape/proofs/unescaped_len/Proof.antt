@@ -25,7 +25,7 @@ abbrev μ-loop : tie.MeasureT-loop
 μ-loop s n₀ i₀ n i = length s - i
 
 loop-holds : tie.Need-loop-holds Inv-loop μ-loop
-loop-holds c = (omega arith, omega arith, [], sym (behind-nil (unescape (c .before .args .s .now))), refl)
+loop-holds c = (omega arith, omega arith, [], sym (behind-nil (unescape (the (tie.Start Inv-loop μ-loop) (search) .args .s .now))), refl)
 
 -- the next backslash
 found : (c : tie.After-find-byte Inv-loop μ-loop) → c .find-byte .result ≡ length (upTo 92 (drop (the (tie.At-loop Inv-loop μ-loop) (search) .loop .i) (the (tie.Start Inv-loop μ-loop) (search) .args .s .now)))
@@ -48,7 +48,7 @@ returns c =
     let at-loop : tie.At-loop Inv-loop μ-loop = search in
     let s = the (tie.Start Inv-loop μ-loop) (search) .args .s .now in
     let l = at-loop .loop in
-    let k = c .before .find-byte .result in
+    let k = the (tie.After-find-byte Inv-loop μ-loop) (search) .find-byte .result in
     let w = l .inv .2 in
     measured-some (unescape s) (w ++ take k (drop (l .i) s)) (l .n + k)
     (read-end s (l .i) k (found (search)) w (l .inv .3) (omega arith)) (stretch-length s (l .i) k w (within (search)) ∙ ap (λ (n : ℕ). n + k) (l .inv .4))
@@ -58,9 +58,6 @@ add-escape-at c = omega (arith, within (search))
 
 escape-at-requires : tie.Need-escape-at-requires Inv-loop μ-loop
 escape-at-requires c κs = omega (arith, within (search))
-
-enum-told : tie.Need-enum-told Inv-loop μ-loop
-enum-told c = search needs
 
 returns-2 : tie.Need-returns-2 Inv-loop μ-loop
 returns-2 c =
@@ -123,4 +120,4 @@ pub unescaped-len-spec : {M : Type 1} → statement M
 unescaped-len-spec =
     tie.close
     (tie.spec Inv-loop μ-loop loop-holds (λ c. search needs) (λ c. search needs) (λ c. search needs) (λ c κs. search needs) add-n add-end returns
-    add-escape-at escape-at-requires enum-told returns-2 (λ c. search needs) (λ c κs. search needs) add-n-2 add-i add-i-2 loop-less loop-again)
+    add-escape-at escape-at-requires (λ c. search needs) returns-2 (λ c. search needs) (λ c κs. search needs) add-n-2 add-i add-i-2 loop-less loop-again)

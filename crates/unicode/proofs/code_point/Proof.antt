@@ -21,7 +21,7 @@ returns-4 : tie.Need-returns-4
 returns-4 c = rw (the tie.After-wide7 (search) .wide7 .ensures, the tie.After-wide8 (search) .wide8 .ensures, the tie.After-wide9 (search) .wide9 .ensures, c .wide10 .ensures) (sym (point-four (the tie.Start (search) .args .g .now) (omega arith)))
 
 returns-5 : tie.Need-returns-5
-returns-5 c = sym (point-other (the tie.Start (search) .args .g .now) (the tie.Else1 (search) .if1 .left) (the tie.Else2 (search) .if2 .left) (c .before .if3 .left) (c .if4 .left))
+returns-5 c = sym (point-other (the tie.Start (search) .args .g .now) (the tie.Else1 (search) .if1 .left) (the tie.Else2 (search) .if2 .left) (the tie.Else3 (search) .if3 .left) (c .if4 .left))
 
 pub code-point-spec : {M : Type 1} → statement M
 code-point-spec =

@@ -7,10 +7,10 @@ use Rattle.unicode.proofs.is_char.Statement.{statement}
 use Rattle.unicode.proofs.is_char.Tie as tie
 
 returns : tie.Need-returns
-returns c = whole-none (the tie.Start (search) .args .g .now) (c .before .char-len .result) (c .before .char-len .ensures) (c .if1 .taken)
+returns c = whole-none (the tie.Start (search) .args .g .now) (the tie.After-char-len (search) .char-len .result) (the tie.After-char-len (search) .char-len .ensures) (c .if1 .taken)
 
 returns-2 : tie.Need-returns-2
-returns-2 c = whole-tested (the tie.Start (search) .args .g .now) (c .before .char-len .result) (c .before .char-len .ensures) (c .if1 .left)
+returns-2 c = whole-tested (the tie.Start (search) .args .g .now) (the tie.After-char-len (search) .char-len .result) (the tie.After-char-len (search) .char-len .ensures) (c .if1 .left)
 
 pub is-char-spec : {M : Type 1} → statement M
 is-char-spec = tie.close (tie.spec (λ c κs. search needs) returns returns-2)

@@ -38,7 +38,7 @@ loop-again c =
     )
 
 returns-2 : tie.Need-returns-2 Inv-loop μ-loop
-returns-2 c = sym (c .before .loop .inv .1 ∙ any-end (the (tie.Start Inv-loop μ-loop) (search) .args .n) whiteSpace (c .before .loop .i) (omega arith))
+returns-2 c = sym (the (tie.At-loop Inv-loop μ-loop) (search) .loop .inv .1 ∙ any-end (the (tie.Start Inv-loop μ-loop) (search) .args .n) whiteSpace (the (tie.At-loop Inv-loop μ-loop) (search) .loop .i) (omega arith))
 
 pub is-listed-spec : {M : Type 1} → statement M
 is-listed-spec =

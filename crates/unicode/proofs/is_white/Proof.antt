@@ -19,10 +19,10 @@ is-listed-requires : tie.Need-is-listed-requires
 is-listed-requires c κs = refl
 
 returns-2 : tie.Need-returns-2
-returns-2 c = c .is-char .ensures ∙ white-listed (the tie.Start (search) .args .g .now) (sym (ap (λ (n : ℕ). any (eqb n) whiteSpace) (the tie.After-code-point (search) .code-point .ensures)) ∙ sym (the tie.After-is-listed (search) .is-listed .ensures) ∙ c .before .if2 .taken)
+returns-2 c = c .is-char .ensures ∙ white-listed (the tie.Start (search) .args .g .now) (sym (ap (λ (n : ℕ). any (eqb n) whiteSpace) (the tie.After-code-point (search) .code-point .ensures)) ∙ sym (the tie.After-is-listed (search) .is-listed .ensures) ∙ the tie.Then2 (search) .if2 .taken)
 
 returns-3 : tie.Need-returns-3
-returns-3 c = white-unlisted (the tie.Start (search) .args .g .now) (sym (ap (λ (n : ℕ). any (eqb n) whiteSpace) (the tie.After-code-point (search) .code-point .ensures)) ∙ sym (c .before .is-listed .ensures) ∙ c .if2 .left)
+returns-3 c = white-unlisted (the tie.Start (search) .args .g .now) (sym (ap (λ (n : ℕ). any (eqb n) whiteSpace) (the tie.After-code-point (search) .code-point .ensures)) ∙ sym (the tie.After-is-listed (search) .is-listed .ensures) ∙ c .if2 .left)
 
 pub is-white-spec : {M : Type 1} → statement M
 is-white-spec =

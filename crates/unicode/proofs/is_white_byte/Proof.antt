@@ -8,7 +8,7 @@ use Rattle.unicode.proofs.is_white_byte.Statement.{statement}
 use Rattle.unicode.proofs.is_white_byte.Tie as tie
 
 returns : tie.Need-returns
-returns c = byte-below (c .before .args .b) (omega arith)
+returns c = byte-below (the tie.Start (search) .args .b) (omega arith)
 
 returns-2 : tie.Need-returns-2
 returns-2 c = byte-among (the tie.Start (search) .args .b) (omega arith) (omega arith)

@@ -4,7 +4,7 @@ use Prim.Native.Nat.{_<_}
 use native.Mathlib.Omega.{arith}
 use borrow.Author.Needs.{needs}
 use Rattle.format.proofs.Characters.Chars.{utf8-ascii-text}
-use Rattle.characters.proofs.CharEnds.{utf8-tested}
+use Rattle.characters.proofs.Utf8End.{utf8-tested}
 use Rattle.format.proofs.Typed.{the}
 use Rattle.utf8.specs.Blocks.{largestOf}
 use Rattle.utf8.proofs.Utf8Answers.{ascii-is}
@@ -14,7 +14,7 @@ use Rattle.utf8.proofs.is_utf8.Tie as tie
 returns : tie.Need-returns
 returns c =
     let s = the tie.Start (search) .args .s .now in
-    let l : largestOf s < 0x80 = omega (arith, c .before .largest .ensures) in
+    let l : largestOf s < 0x80 = omega (arith, the tie.After-largest (search) .largest .ensures) in
     sym (utf8-ascii-text s (ascii-is s l))
 
 returns-2 : tie.Need-returns-2

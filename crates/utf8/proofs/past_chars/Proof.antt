@@ -6,7 +6,7 @@ use Prim.Native.Nat.{_-_, _≤_}
 use native.Mathlib.Omega.{arith}
 use lib.ListN.{length}
 use borrow.Author.Needs.{needs}
-use Rattle.characters.proofs.CharEnds.{char-step}
+use Rattle.characters.proofs.Utf8End.{char-step}
 use Rattle.format.proofs.Typed.{the}
 use Rattle.utf8.specs.CharsEnd.{charsEnd}
 use Rattle.utf8.proofs.CharsEnd.{chars-stop, chars-ill, chars-more}
@@ -26,25 +26,25 @@ returns : tie.Need-returns Inv-loop μ-loop
 returns c =
     let a = the (tie.Start Inv-loop μ-loop) (search) .args in
     let loop = the (tie.At-loop Inv-loop μ-loop) (search) .loop in
-    sym (loop .inv .1 ∙ chars-ill (a .s .now) (loop .at) (a .stop) (omega arith) (sym (c .before .char-len-in .ensures) ∙ c .if1 .taken))
+    sym (loop .inv .1 ∙ chars-ill (a .s .now) (loop .at) (a .stop) (omega arith) (sym (the (tie.After-char-len-in Inv-loop μ-loop) (search) .char-len-in .ensures) ∙ c .if1 .taken))
 
 add-at : tie.Need-add-at Inv-loop μ-loop
-add-at c = omega (arith, char-step (the (tie.Start Inv-loop μ-loop) (search) .args .s .now) (the (tie.At-loop Inv-loop μ-loop) (search) .loop .at) (c .before .char-len-in .result) (c .before .char-len-in .ensures) (c .if1 .left) .inside)
+add-at c = omega (arith, char-step (the (tie.Start Inv-loop μ-loop) (search) .args .s .now) (the (tie.At-loop Inv-loop μ-loop) (search) .loop .at) (the (tie.After-char-len-in Inv-loop μ-loop) (search) .char-len-in .result) (the (tie.After-char-len-in Inv-loop μ-loop) (search) .char-len-in .ensures) (c .if1 .left) .inside)
 
 loop-less : tie.Need-loop-less Inv-loop μ-loop
-loop-less c = omega (arith, char-step (the (tie.Start Inv-loop μ-loop) (search) .args .s .now) (the (tie.At-loop Inv-loop μ-loop) (search) .loop .at) (c .before .char-len-in .result) (c .before .char-len-in .ensures) (c .if1 .left) .inside)
+loop-less c = omega (arith, char-step (the (tie.Start Inv-loop μ-loop) (search) .args .s .now) (the (tie.At-loop Inv-loop μ-loop) (search) .loop .at) (the (tie.After-char-len-in Inv-loop μ-loop) (search) .char-len-in .result) (the (tie.After-char-len-in Inv-loop μ-loop) (search) .char-len-in .ensures) (c .if1 .left) .inside)
 
 loop-again : tie.Need-loop-again Inv-loop μ-loop
 loop-again c =
     let a = the (tie.Start Inv-loop μ-loop) (search) .args in
     let loop = the (tie.At-loop Inv-loop μ-loop) (search) .loop in
-    let n = c .before .char-len-in in (
+    let n = the (tie.After-char-len-in Inv-loop μ-loop) (search) .char-len-in in (
       char-step (a .s .now) (loop .at) (n .result) (n .ensures) (c .if1 .left) .inside,
       loop .inv .1 ∙ chars-more (a .s .now) (loop .at) (a .stop) (n .result) (omega arith) (n .ensures) (c .if1 .left),
     )
 
 returns-2 : tie.Need-returns-2 Inv-loop μ-loop
-returns-2 c = let a = the (tie.Start Inv-loop μ-loop) (search) .args in sym (c .before .loop .inv .1 ∙ chars-stop (a .s .now) (c .before .loop .at) (a .stop) (omega arith))
+returns-2 c = let a = the (tie.Start Inv-loop μ-loop) (search) .args in sym (the (tie.At-loop Inv-loop μ-loop) (search) .loop .inv .1 ∙ chars-stop (a .s .now) (the (tie.At-loop Inv-loop μ-loop) (search) .loop .at) (a .stop) (omega arith))
 
 pub past-chars-spec : {M : Type 1} → statement M
 past-chars-spec =

@@ -15,7 +15,7 @@ use Rattle.utf8.proofs.past_part.Tie as tie
 returns : tie.Need-returns
 returns c =
     let a = the tie.Start (search) .args in
-    let top = c .before .largest in
+    let top = the tie.After-largest (search) .largest in
     let part = take (a .stop - a .from) (drop (a .from) (a .s .now)) in
     let l : largestOf part < 0x80 = omega (arith, top .ensures) in
     sym (chars-ascii-part (a .stop - a .from) (a .s .now) (a .from) (a .stop) (omega arith) (omega arith) (ascii-is part l))

@@ -6,7 +6,7 @@ use Prim.Native.Nat.{_-_}
 use native.Mathlib.Omega.{arith}
 use lib.ListN.{length}
 use Rattle.characters.specs.Lengths.{utf8End}
-use Rattle.characters.proofs.CharEnds.{end-end}
+use Rattle.characters.proofs.Utf8End.{end-end}
 use Rattle.format.proofs.Typed.{the}
 use Rattle.utf8.proofs.Passed.{blocks-end-passed}
 use Rattle.utf8.proofs.CharsEnd.{turn-keeps, turn-ends, turn-less}
@@ -34,7 +34,7 @@ past-part-requires : tie.Need-past-part-requires Inv-loop μ-loop
 past-part-requires c κs =
     let run = the (tie.After-past-blocks Inv-loop μ-loop) (search) .past-blocks in
     let p = blocks-end-passed (the (tie.Start Inv-loop μ-loop) (search) .args .s .now) (the (tie.At-loop Inv-loop μ-loop) (search) .loop .at) (run .result) (run .ensures) (omega arith) in
-    (refl, omega (arith, c .before .block-end .ensures, p .inside), omega (arith, c .before .block-end .ensures))
+    (refl, omega (arith, the (tie.After-block-end Inv-loop μ-loop) (search) .block-end .ensures, p .inside), omega (arith, the (tie.After-block-end Inv-loop μ-loop) (search) .block-end .ensures))
 
 returns : tie.Need-returns Inv-loop μ-loop
 returns c =
@@ -42,7 +42,7 @@ returns c =
     let loop = the (tie.At-loop Inv-loop μ-loop) (search) .loop in
     let run = the (tie.After-past-blocks Inv-loop μ-loop) (search) .past-blocks in
     let stop = the (tie.After-block-end Inv-loop μ-loop) (search) .block-end in
-    let part = c .before .past-part in
+    let part = the (tie.After-past-part Inv-loop μ-loop) (search) .past-part in
     sym (loop .inv ∙ turn-ends (a .s .now) (loop .at) (run .result) (stop .result) (part .result) (omega arith) (run .ensures) (stop .ensures) (part .ensures) (c .if1 .taken))
 
 loop-less : tie.Need-loop-less Inv-loop μ-loop
@@ -51,7 +51,7 @@ loop-less c =
     let loop = the (tie.At-loop Inv-loop μ-loop) (search) .loop in
     let run = the (tie.After-past-blocks Inv-loop μ-loop) (search) .past-blocks in
     let stop = the (tie.After-block-end Inv-loop μ-loop) (search) .block-end in
-    let part = c .before .past-part in
+    let part = the (tie.After-past-part Inv-loop μ-loop) (search) .past-part in
     turn-less (a .s .now) (loop .at) (run .result) (stop .result) (part .result) (omega arith) (run .ensures) (stop .ensures) (part .ensures) (omega arith)
 
 loop-again : tie.Need-loop-again Inv-loop μ-loop
@@ -60,11 +60,11 @@ loop-again c =
     let loop = the (tie.At-loop Inv-loop μ-loop) (search) .loop in
     let run = the (tie.After-past-blocks Inv-loop μ-loop) (search) .past-blocks in
     let stop = the (tie.After-block-end Inv-loop μ-loop) (search) .block-end in
-    let part = c .before .past-part in
+    let part = the (tie.After-past-part Inv-loop μ-loop) (search) .past-part in
     loop .inv ∙ turn-keeps (a .s .now) (loop .at) (run .result) (stop .result) (part .result) (omega arith) (run .ensures) (stop .ensures) (part .ensures)
 
 returns-2 : tie.Need-returns-2 Inv-loop μ-loop
-returns-2 c = sym (c .before .loop .inv ∙ end-end (the (tie.Start Inv-loop μ-loop) (search) .args .s .now) (c .before .loop .at) (omega arith))
+returns-2 c = sym (the (tie.At-loop Inv-loop μ-loop) (search) .loop .inv ∙ end-end (the (tie.Start Inv-loop μ-loop) (search) .args .s .now) (the (tie.At-loop Inv-loop μ-loop) (search) .loop .at) (omega arith))
 
 pub utf8-end-spec : {M : Type 1} → statement M
 utf8-end-spec =

@@ -40,20 +40,22 @@ returns c =
 returns-2 : tie.Need-returns-2
 unfolding headerValue contentValue refuseIf numbers table
 returns-2 c =
+    let at-any-in : tie.After-any-in = search in
     let s = the tie.Start (search) .args .s .now in
     let value = the tie.After-validate-cpim-header-value (search) .validate-cpim-header-value in
     sym
     (passes s (refuseIf (any isAsciiControl s) contentControl) (sym (ap (λ m. m .number) (value .ensures)) ∙ the tie.Else1 (search) .if1 .left)
-    ∙ rw (sym (c .before .any-in .ensures) ∙ c .if2 .taken) refl)
+    ∙ rw (sym (at-any-in .any-in .ensures) ∙ c .if2 .taken) refl)
 
 returns-3 : tie.Need-returns-3
 unfolding headerValue contentValue refuseIf numbers table
 returns-3 c =
+    let at-any-in : tie.After-any-in = search in
     let s = the tie.Start (search) .args .s .now in
     let value = the tie.After-validate-cpim-header-value (search) .validate-cpim-header-value in
     sym
     (passes s (refuseIf (any isAsciiControl s) contentControl) (sym (ap (λ m. m .number) (value .ensures)) ∙ the tie.Else1 (search) .if1 .left)
-    ∙ rw (sym (c .before .any-in .ensures) ∙ c .if2 .left) refl)
+    ∙ rw (sym (at-any-in .any-in .ensures) ∙ c .if2 .left) refl)
 
 pub validate-content-header-value-spec : {M : Type 1} → statement M
 validate-content-header-value-spec =

@@ -21,20 +21,23 @@ returns c =
 returns-2 : tie.Need-returns-2
 unfolding contentType atMost refuseIf numbers table _>>_
 returns-2 c =
+    let at-else1 : tie.Else1 = search in
     let s = the tie.Start (search) .args .s .now in
-    rw (empty-not s (c .before .if1 .left), lt-leb (length s) 256 (omega arith)) (sym (carried 18 (length s) (omega arith)))
+    rw (empty-not s (at-else1 .if1 .left), lt-leb (length s) 256 (omega arith)) (sym (carried 18 (length s) (omega arith)))
 
 returns-3 : tie.Need-returns-3
 unfolding contentType atMost refuseIf numbers table _>>_
 returns-3 c =
+    let at-any-in : tie.After-any-in = search in
     let s = the tie.Start (search) .args .s .now in
-    rw (empty-not s (the tie.Else1 (search) .if1 .left), le-leb (length s) 256 (omega arith), sym (c .before .any-in .ensures) ∙ c .if3 .taken) refl
+    rw (empty-not s (the tie.Else1 (search) .if1 .left), le-leb (length s) 256 (omega arith), sym (at-any-in .any-in .ensures) ∙ c .if3 .taken) refl
 
 returns-4 : tie.Need-returns-4
 unfolding contentType atMost refuseIf numbers table _>>_
 returns-4 c =
+    let at-any-in : tie.After-any-in = search in
     let s = the tie.Start (search) .args .s .now in
-    rw (empty-not s (the tie.Else1 (search) .if1 .left), le-leb (length s) 256 (omega arith), sym (c .before .any-in .ensures) ∙ c .if3 .left) refl
+    rw (empty-not s (the tie.Else1 (search) .if1 .left), le-leb (length s) 256 (omega arith), sym (at-any-in .any-in .ensures) ∙ c .if3 .left) refl
 
 pub validate-content-type-spec : {M : Type 1} → statement M
 validate-content-type-spec = tie.close (tie.spec returns returns-2 (λ c κs. search needs) returns-3 returns-4)

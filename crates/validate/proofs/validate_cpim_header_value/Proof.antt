@@ -12,12 +12,15 @@ use Rattle.validate.proofs.validate_cpim_header_value.Tie as tie
 returns : tie.Need-returns
 unfolding headerValue atMost refuseIf numbers table
 returns c =
-    let n = length (c .before .args .s .now) in
+    let start : tie.Start = search in
+    let n = length (start .args .s .now) in
     rw (lt-leb n 1024 (omega arith)) (sym (carried 10 n (omega arith)))
 
 returns-2 : tie.Need-returns-2
 unfolding headerValue atMost refuseIf numbers
-returns-2 c = rw (le-leb (length (c .before .args .s .now)) 1024 (omega arith)) refl
+returns-2 c =
+    let start : tie.Start = search in
+    rw (le-leb (length (start .args .s .now)) 1024 (omega arith)) refl
 
 pub validate-cpim-header-value-spec : {M : Type 1} → statement M
 validate-cpim-header-value-spec = tie.close (tie.spec returns returns-2)

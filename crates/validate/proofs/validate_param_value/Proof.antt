@@ -20,14 +20,16 @@ returns c =
 returns-2 : tie.Need-returns-2
 unfolding paramValue atMost refuseIf numbers table _>>_
 returns-2 c =
+    let at-any-in : tie.After-any-in = search in
     let s = the tie.Start (search) .args .s .now in
-    rw (le-leb (length s) 256 (omega arith), sym (c .before .any-in .ensures) ∙ c .if2 .taken) refl
+    rw (le-leb (length s) 256 (omega arith), sym (at-any-in .any-in .ensures) ∙ c .if2 .taken) refl
 
 returns-3 : tie.Need-returns-3
 unfolding paramValue atMost refuseIf numbers table _>>_
 returns-3 c =
+    let at-any-in : tie.After-any-in = search in
     let s = the tie.Start (search) .args .s .now in
-    rw (le-leb (length s) 256 (omega arith), sym (c .before .any-in .ensures) ∙ c .if2 .left) refl
+    rw (le-leb (length s) 256 (omega arith), sym (at-any-in .any-in .ensures) ∙ c .if2 .left) refl
 
 pub validate-param-value-spec : {M : Type 1} → statement M
 validate-param-value-spec = tie.close (tie.spec returns (λ c κs. search needs) returns-2 returns-3)

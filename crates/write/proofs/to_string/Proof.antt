@@ -18,12 +18,12 @@ abbrev start : tie.Else1 → tie.Start
 start c = search
 
 holds : (c : tie.Else1) → messageHolds (start c .args .m) (start c .args .head .now) ≡ true
-holds c = sym (c .before .message-holds .ensures) ∙ not-false _ (c .if1 .left)
+holds c = sym (the tie.After-message-holds (search) .message-holds .ensures) ∙ not-false _ (c .if1 .left)
 
 returns : tie.Need-returns
 returns c =
     let args = the tie.Start (search) .args in
-    wrote-unheld (args .m) (args .head .now) (args .body .now) (args .out .now) (sym (c .before .message-holds .ensures) ∙ not-true _ (c .if1 .taken))
+    wrote-unheld (args .m) (args .head .now) (args .body .now) (args .out .now) (sym (the tie.After-message-holds (search) .message-holds .ensures) ∙ not-true _ (c .if1 .taken))
 
 returns-2 : tie.Need-returns-2
 returns-2 c =
@@ -50,14 +50,14 @@ returns-3 : tie.Need-returns-3
 returns-3 c =
     let at : tie.After-held = search in
     let args = start (passed at) .args in
-    wrote-full (args .m) (args .head .now) (args .body .now) (args .out .now) (holds (passed at)) (fits at) (c .before .text-len .result) (c .before .text-len .ensures)
-    (omega arith) (omega (arith, c .before .text-len .ok))
+    wrote-full (args .m) (args .head .now) (args .body .now) (args .out .now) (holds (passed at)) (fits at) (the tie.After-text-len (search) .text-len .result) (the tie.After-text-len (search) .text-len .ensures)
+    (omega arith) (omega (arith, the tie.After-text-len (search) .text-len .ok))
 
 write-held-requires : tie.Need-write-held-requires
 write-held-requires c κs =
     let measured : tie.After-text-len = search in
     let at : tie.After-held = search in
-    (holds (passed at), measured .before .utf8-end .ensures, omega (arith, measured .text-len .ensures))
+    (holds (passed at), the tie.After-utf8-end (search) .utf8-end .ensures, omega (arith, measured .text-len .ensures))
 
 same-length : tie.Need-same-length
 same-length c = the tie.After-write-held (search) .write-held .kept .1 .1 .1 .1 .0

@@ -5,7 +5,7 @@ use lib.ListN.{length}
 use borrow.Author.Tests.{eq-eqb}
 use Rattle.format.specs.Characters.{replaced}
 use Rattle.format.proofs.Characters.Replaced.{replaced-same}
-use Rattle.characters.proofs.CharEnds.{utf8-tested}
+use Rattle.characters.proofs.Utf8End.{utf8-tested}
 use Rattle.format.proofs.Typed.{the}
 use Rattle.write_parts.proofs.put_body_at.Statement.{statement}
 use Rattle.write_parts.proofs.put_body_at.Tie as tie

@@ -42,7 +42,7 @@ unfolding lends
 returns-6 c =
     let start : tie.Start = search in
     let e : tie.Else5 = search in
-    two-step _ _ _ _ _ (start .args .number) 13 with-content-header (start .args .first .now) (start .args .second .now) (two-left (start .args .number) (start .pre) (the tie.Else1 (search) .if1 .left) (the tie.Else2 (search) .if2 .left) (the tie.Else3 (search) .if3 .left) (e .before .if4 .left) (e .if5 .left)) refl refl (the tie.After-with-content-header (search) .with-content-header .ensures)
+    two-step _ _ _ _ _ (start .args .number) 13 with-content-header (start .args .first .now) (start .args .second .now) (two-left (start .args .number) (start .pre) (the tie.Else1 (search) .if1 .left) (the tie.Else2 (search) .if2 .left) (the tie.Else3 (search) .if3 .left) (the tie.Else4 (search) .if4 .left) (e .if5 .left)) refl refl (the tie.After-with-content-header (search) .with-content-header .ensures)
 
 pub two-texts-spec : {M : Type 1} → statement M
 two-texts-spec =

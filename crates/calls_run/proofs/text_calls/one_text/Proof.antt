@@ -42,7 +42,7 @@ unfolding lends
 returns-6 c =
     let start : tie.Start = search in
     let e : tie.Else5 = search in
-    one-step _ _ _ _ _ (start .args .number) 12 with-require (start .args .text .now) (one-left (start .args .number) (start .pre .0) (start .pre .1) (the tie.Else1 (search) .if1 .left) (the tie.Else2 (search) .if2 .left) (the tie.Else3 (search) .if3 .left) (e .before .if4 .left) (e .if5 .left)) refl refl (the tie.After-with-require (search) .with-require .ensures)
+    one-step _ _ _ _ _ (start .args .number) 12 with-require (start .args .text .now) (one-left (start .args .number) (start .pre .0) (start .pre .1) (the tie.Else1 (search) .if1 .left) (the tie.Else2 (search) .if2 .left) (the tie.Else3 (search) .if3 .left) (the tie.Else4 (search) .if4 .left) (e .if5 .left)) refl refl (the tie.After-with-require (search) .with-require .ensures)
 
 pub one-text-spec : {M : Type 1} → statement M
 one-text-spec =

@@ -1,5 +1,6 @@
 -- `escape::bare::bare_byte` meets its contract. Each byte by its arm. Assumes nothing.
 use mathlib.Core.Path.{refl}
+use Rattle.format.proofs.Typed.{the}
 use Rattle.escape.specs.Bare.{isBare}
 use Rattle.escape.proofs.ByKind.{bare-rest}
 use Rattle.escape.proofs.bare.bare_byte.Statement.{statement}
@@ -24,7 +25,7 @@ returns-4 c = rw (c .match .keys4) refl
 returns-5 : tie.Need-returns-5
 returns-5 c =
     let r = c .match .rest in
-    bare-rest (c .before .args .b) (r .0 .0 .0 .1) (r .0 .0 .1) (r .0 .1) (r .1)
+    bare-rest (the tie.Start (search) .args .b) (r .0 .0 .0 .1) (r .0 .0 .1) (r .0 .1) (r .1)
 
 pub bare-byte-spec : {M : Type 1} → statement M
 bare-byte-spec = tie.close (tie.spec returns returns-2 returns-3 returns-4 returns-5)

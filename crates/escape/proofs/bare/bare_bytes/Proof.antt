@@ -21,14 +21,14 @@ abbrev μ-loop : tie.MeasureT-loop
 μ-loop v i₀ i = length v - i
 
 loop-holds : tie.Need-loop-holds Inv-loop μ-loop
-loop-holds c = (omega arith, all-start isBare (c .before .args .v .now))
+loop-holds c = (omega arith, all-start isBare (the (tie.Start Inv-loop μ-loop) (search) .args .v .now))
 
 returns : tie.Need-returns Inv-loop μ-loop
 returns c =
     let at-loop : tie.At-loop Inv-loop μ-loop = search in
     let args = the (tie.Start Inv-loop μ-loop) (search) .args in
     let i = at-loop .loop .i in
-    let e : isBare (getD (args .v .now) i 0) ≡ false = sym (c .before .bare-byte .ensures) ∙ not-true (c .before .bare-byte .result) (c .if1 .taken) in
+    let e : isBare (getD (args .v .now) i 0) ≡ false = sym (the (tie.After-bare-byte Inv-loop μ-loop) (search) .bare-byte .ensures) ∙ not-true (the (tie.After-bare-byte Inv-loop μ-loop) (search) .bare-byte .result) (c .if1 .taken) in
     sym (all-other isBare (args .v .now) i (omega arith) e)
 
 loop-again : tie.Need-loop-again Inv-loop μ-loop
@@ -36,13 +36,13 @@ loop-again c =
     let at-loop : tie.At-loop Inv-loop μ-loop = search in
     let args = the (tie.Start Inv-loop μ-loop) (search) .args in
     let i = at-loop .loop .i in
-    let e : isBare (getD (args .v .now) i 0) ≡ true = sym (c .before .bare-byte .ensures) ∙ not-false (c .before .bare-byte .result) (c .if1 .left) in
+    let e : isBare (getD (args .v .now) i 0) ≡ true = sym (the (tie.After-bare-byte Inv-loop μ-loop) (search) .bare-byte .ensures) ∙ not-false (the (tie.After-bare-byte Inv-loop μ-loop) (search) .bare-byte .result) (c .if1 .left) in
     (omega arith, all-byte isBare (args .v .now) i (omega arith) (at-loop .loop .inv .1) e)
 
 returns-2 : tie.Need-returns-2 Inv-loop μ-loop
 returns-2 c =
     let args = the (tie.Start Inv-loop μ-loop) (search) .args in
-    sym (c .before .loop .inv .1) ∙ ap (all isBare) (take-all (c .before .loop .i) (args .v .now) (omega arith))
+    sym (the (tie.At-loop Inv-loop μ-loop) (search) .loop .inv .1) ∙ ap (all isBare) (take-all (the (tie.At-loop Inv-loop μ-loop) (search) .loop .i) (args .v .now) (omega arith))
 
 pub bare-bytes-spec : {M : Type 1} → statement M
 bare-bytes-spec =

@@ -35,7 +35,7 @@ returns-2 c =
     let at-loop : tie.At-loop Inv-loop μ-loop = search in
     let v = the (tie.Start Inv-loop μ-loop) (search) .args .v .now in
     let i = at-loop .loop .i in
-    sym (all-stop isBare v i (i + 16 - i) (sym (c .before .bare-block .ensures) ∙ not-true (c .before .bare-block .result) (c .if2 .taken)))
+    sym (all-stop isBare v i (i + 16 - i) (sym (the (tie.After-bare-block Inv-loop μ-loop) (search) .bare-block .ensures) ∙ not-true (the (tie.After-bare-block Inv-loop μ-loop) (search) .bare-block .result) (c .if2 .taken)))
 
 loop-again : tie.Need-loop-again Inv-loop μ-loop
 loop-again c =
@@ -45,8 +45,8 @@ loop-again c =
     let n : i + 16 - i ≡ 16 = omega arith in
     let e : all isBare (take 16 (drop i v)) ≡ true =
     ap (λ (k : ℕ). all isBare (take k (drop i v))) (sym n)
-    ∙ sym (c .before .bare-block .ensures)
-    ∙ not-false (c .before .bare-block .result) (c .if2 .left) in
+    ∙ sym (the (tie.After-bare-block Inv-loop μ-loop) (search) .bare-block .ensures)
+    ∙ not-false (the (tie.After-bare-block Inv-loop μ-loop) (search) .bare-block .result) (c .if2 .left) in
     (omega arith, all-next isBare v i 16 (at-loop .loop .inv .1) e)
 
 bare-block-requires-2 : tie.Need-bare-block-requires-2 Inv-loop μ-loop

@@ -22,14 +22,14 @@ unfolding byteForm shortForm isAsciiControl
 returns-3 c = rw (c .if3 .taken) refl
 
 returns-4 : tie.Need-returns-4
-returns-4 c = sym (byte-plain (the tie.Start (search) .args .b) (omega arith) (λ e. omega arith) (c .before .if3 .left) (λ e. omega arith))
+returns-4 c = sym (byte-plain (the tie.Start (search) .args .b) (omega arith) (λ e. omega arith) (the tie.Else3 (search) .if3 .left) (λ e. omega arith))
 
 returns-5 : tie.Need-returns-5
 unfolding byteForm shortForm isAsciiControl
 returns-5 c = rw (c .if5 .taken) refl
 
 returns-6 : tie.Need-returns-6
-returns-6 c = sym (byte-plain (the tie.Start (search) .args .b) (omega arith) (c .before .if5 .left) (λ e. omega arith) (λ e. omega arith))
+returns-6 c = sym (byte-plain (the tie.Start (search) .args .b) (omega arith) (the tie.Else5 (search) .if5 .left) (λ e. omega arith) (λ e. omega arith))
 
 pub byte-form-spec : {M : Type 1} → statement M
 byte-form-spec =

@@ -12,7 +12,7 @@ use Rattle.escape.proofs.forms.form_at.Tie as tie
 returns : tie.Need-returns
 returns c =
     let args = the tie.Start (search) .args in
-    c .byte-form .ensures ∙ sym (form-other (args .v .now) (args .i) (omega arith) (c .before .if1 .taken))
+    c .byte-form .ensures ∙ sym (form-other (args .v .now) (args .i) (omega arith) (the tie.Then1 (search) .if1 .taken))
 
 returns-2 : tie.Need-returns-2
 returns-2 c =
@@ -26,18 +26,18 @@ returns-3 : tie.Need-returns-3
 returns-3 c =
     let args = the tie.Start (search) .args in
     c .byte-form3 .ensures
-    ∙ sym (form-beside (args .v .now) (args .i) (omega arith) (omega arith) (within-below _ (0x80 to 0x9F) (c .before .if3 .taken)))
+    ∙ sym (form-beside (args .v .now) (args .i) (omega arith) (omega arith) (within-below _ (0x80 to 0x9F) (the tie.Then3 (search) .if3 .taken)))
 
 returns-4 : tie.Need-returns-4
 returns-4 c =
     let args = the tie.Start (search) .args in
-    c .byte-form4 .ensures ∙ sym (form-beside (args .v .now) (args .i) (omega arith) (omega arith) (within-above _ (0x80 to 0x9F) (c .before .if4 .taken)))
+    c .byte-form4 .ensures ∙ sym (form-beside (args .v .now) (args .i) (omega arith) (omega arith) (within-above _ (0x80 to 0x9F) (the tie.Then4 (search) .if4 .taken)))
 
 returns-5 : tie.Need-returns-5
 returns-5 c =
     let args = the tie.Start (search) .args in
     sym
-    (form-upper (args .v .now) (args .i) (omega arith) (the tie.Else1 (search) .if1 .left) (omega arith) (c .before .if3 .left) (c .if4 .left))
+    (form-upper (args .v .now) (args .i) (omega arith) (the tie.Else1 (search) .if1 .left) (omega arith) (the tie.Else3 (search) .if3 .left) (c .if4 .left))
 
 pub form-at-spec : {M : Type 1} → statement M
 form-at-spec =

@@ -10,13 +10,13 @@ use Rattle.escape.proofs.putting.put_form.Statement.{statement}
 use Rattle.escape.proofs.putting.put_form.Tie as tie
 
 slice-write-out : tie.Need-slice-write-out
-slice-write-out c = omega (arith, ap widthForm (c .before .f .given .1))
+slice-write-out c = omega (arith, ap widthForm (the tie.After-f (search) .f .given .1))
 
 slice-write-out-2 : tie.Need-slice-write-out-2
-slice-write-out-2 c = omega (arith, ap widthForm (c .before .f2 .given .1))
+slice-write-out-2 c = omega (arith, ap widthForm (the tie.After-f2 (search) .f2 .given .1))
 
 slice-write-out-3 : tie.Need-slice-write-out-3
-slice-write-out-3 c = simp length-set (omega (arith, ap widthForm (c .before .f2 .given .1)))
+slice-write-out-3 c = simp length-set (omega (arith, ap widthForm (the tie.After-f2 (search) .f2 .given .1)))
 
 put-unicode-requires : tie.Need-put-unicode-requires
 put-unicode-requires c κs = omega (arith, ap widthForm (the tie.After-f3 (search) .f3 .given .1))
@@ -27,16 +27,17 @@ put-unicode-requires-2 c κs = omega (arith, ap widthForm (the tie.After-f4 (sea
 returns : tie.Need-returns
 returns c =
     let start : tie.Start = search in
+    let form : tie.After-f = search in
     let args = start .args in
-    pasted-one (args .at) (c .before .f .given .0 .0) (args .out .now) (omega (arith, ap widthForm (c .before .f .given .1)))
-    ∙ rw (c .before .f .given .1) refl
+    pasted-one (args .at) (form .f .given .0 .0) (args .out .now) (omega (arith, ap widthForm (form .f .given .1))) ∙ rw (form .f .given .1) refl
 
 returns-2 : tie.Need-returns-2
 returns-2 c =
     let start : tie.Start = search in
+    let form : tie.After-f2 = search in
     let args = start .args in
-    stores-two (args .out .now) (args .at) 92 (c .before .f2 .given .0 .0) (omega (arith, ap widthForm (c .before .f2 .given .1)))
-    ∙ rw (c .before .f2 .given .1) refl
+    stores-two (args .out .now) (args .at) 92 (form .f2 .given .0 .0) (omega (arith, ap widthForm (form .f2 .given .1)))
+    ∙ rw (form .f2 .given .1) refl
 
 returns-3 : tie.Need-returns-3
 returns-3 c =

@@ -27,9 +27,10 @@ slice-write-out-6 c = simp length-set (omega arith)
 
 returns : tie.Need-returns
 returns c =
+    let at-digit : tie.After-digit = search in
     let args = the tie.Start (search) .args in
-    stores-six (args .out .now) (args .at) 92 117 48 48 (c .before .digit .result) (c .digit2 .result) (omega arith)
-    ∙ rw (c .before .digit .ensures, c .digit2 .ensures) (ap (λ l. pasted (args .at) l (args .out .now)) (sym (unicode-small (args .n) (omega arith))))
+    stores-six (args .out .now) (args .at) 92 117 48 48 (at-digit .digit .result) (c .digit2 .result) (omega arith)
+    ∙ rw (at-digit .digit .ensures, c .digit2 .ensures) (ap (λ l. pasted (args .at) l (args .out .now)) (sym (unicode-small (args .n) (omega arith))))
 
 pub put-unicode-spec : {M : Type 1} → statement M
 put-unicode-spec =

@@ -20,7 +20,7 @@ returns-2 c =
     body-lacks (args .m) (args .head .now) (args .store .now) (the tie.Then2 (search) .if2 .taken) (c .absent2 .ensures)
 
 part-requires : tie.Need-part-requires
-part-requires c κs = (omega arith, c .before .if2 .left)
+part-requires c κs = (omega arith, the tie.Else2 (search) .if2 .left)
 
 returns-3 : tie.Need-returns-3
 returns-3 c =

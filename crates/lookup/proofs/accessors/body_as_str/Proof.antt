@@ -8,10 +8,10 @@ use Rattle.lookup.proofs.accessors.body_as_str.Statement.{statement}
 use Rattle.lookup.proofs.accessors.body_as_str.Tie as tie
 
 returns : tie.Need-returns
-returns c = λ o held. no-str o (c .before .body .ensures o held) (not-true _ (c .if1 .taken))
+returns c = λ o held. no-str o (the tie.After-body (search) .body .ensures o held) (not-true _ (c .if1 .taken))
 
 returns-2 : tie.Need-returns-2
-returns-2 c = λ o held. c .is-utf8 .ensures ∙ str-is o (the tie.After-body (search) .body .ensures o held) (not-false _ (c .before .if1 .left))
+returns-2 c = λ o held. c .is-utf8 .ensures ∙ str-is o (the tie.After-body (search) .body .ensures o held) (not-false _ (the tie.Else1 (search) .if1 .left))
 
 pub body-as-str-spec : {M : Type 1} → statement M
 body-as-str-spec = tie.close (tie.spec (λ c κs. search needs) returns (λ c κs. search needs) returns-2)

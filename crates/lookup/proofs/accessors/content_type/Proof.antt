@@ -18,7 +18,7 @@ part-requires : tie.Need-part-requires
 part-requires c κs =
     let called : tie.After-message-holds = search in
     let args = the tie.Start (search) .args in
-    (omega arith, type-within (args .m) (args .head .now) (sym (called .message-holds .ensures) ∙ not-false _ (c .before .if1 .left)))
+    (omega arith, type-within (args .m) (args .head .now) (sym (called .message-holds .ensures) ∙ not-false _ (the tie.Else1 (search) .if1 .left)))
 
 returns-2 : tie.Need-returns-2
 returns-2 c =

@@ -11,13 +11,13 @@ use Rattle.lookup.proofs.alone.params.Statement.{statement}
 use Rattle.lookup.proofs.alone.params.Tie as tie
 
 holds : (c : tie.Else1) → headerHolds (the tie.Start (search) .args .h) (the tie.Start (search) .args .store .now) ≡ true
-holds c = sym (c .before .header-holds .ensures) ∙ not-false _ (c .if1 .left)
+holds c = sym (the tie.After-header-holds (search) .header-holds .ensures) ∙ not-false _ (c .if1 .left)
 
 returns : tie.Need-returns
 returns c =
     let called : tie.After-header-holds = search in
     let args = the tie.Start (search) .args in
-    no-params (args .h) (args .store .now) (sym (called .header-holds .ensures) ∙ not-true _ (c .before .if1 .taken))
+    no-params (args .h) (args .store .now) (sym (called .header-holds .ensures) ∙ not-true _ (the tie.Then1 (search) .if1 .taken))
 
 add-from : tie.Need-add-from
 add-from c =

@@ -11,7 +11,7 @@ use Rattle.lookup.proofs.alone.value.Statement.{statement}
 use Rattle.lookup.proofs.alone.value.Tie as tie
 
 holds : (c : tie.Else1) → headerHolds (the tie.Start (search) .args .h) (the tie.Start (search) .args .store .now) ≡ true
-holds c = sym (c .before .header-holds .ensures) ∙ not-false _ (c .if1 .left)
+holds c = sym (the tie.After-header-holds (search) .header-holds .ensures) ∙ not-false _ (c .if1 .left)
 
 returns : tie.Need-returns
 returns c =

@@ -15,13 +15,13 @@ within : (c : tie.Else1)
     → 256 + (the tie.Start (search) .args .m .headerlen + the tie.Start (search) .args .m .contentlen) ≤ length (the tie.Start (search) .args .head .now)
 within c =
     let args = the tie.Start (search) .args in
-    used-within (args .m) (args .head .now) (sym (c .before .message-holds .ensures) ∙ not-false _ (c .if1 .left))
+    used-within (args .m) (args .head .now) (sym (the tie.After-message-holds (search) .message-holds .ensures) ∙ not-false _ (c .if1 .left))
 
 returns : tie.Need-returns
 returns c =
     let called : tie.After-message-holds = search in
     let args = the tie.Start (search) .args in
-    no-contents (args .m) (args .head .now) (sym (called .message-holds .ensures) ∙ not-true _ (c .before .if1 .taken))
+    no-contents (args .m) (args .head .now) (sym (called .message-holds .ensures) ∙ not-true _ (the tie.Then1 (search) .if1 .taken))
 
 add-from : tie.Need-add-from
 add-from c = omega (arith, within (search))
@@ -36,7 +36,7 @@ returns-2 : tie.Need-returns-2
 returns-2 c =
     let passed : tie.Else1 = search in
     let args = the tie.Start (search) .args in
-    contents-listed (args .m) (args .head .now) (sym (passed .before .message-holds .ensures) ∙ not-false _ (passed .if1 .left))
+    contents-listed (args .m) (args .head .now) (sym (the tie.After-message-holds (search) .message-holds .ensures) ∙ not-false _ (passed .if1 .left))
 
 pub contents-spec : {M : Type 1} → statement M
 contents-spec =

@@ -20,10 +20,10 @@ start c = search
 
 -- a message is held, and the name is UTF-8
 holds : (c : tie.Else1) → messageHolds (start c .args .m) (start c .args .head .now) ≡ true
-holds c = sym (c .before .message-holds .ensures) ∙ not-false _ (c .if1 .left)
+holds c = sym (the tie.After-message-holds (search) .message-holds .ensures) ∙ not-false _ (c .if1 .left)
 
 utf8 : (c : tie.Else2) → isUtf8 (start (search) .args .name .now) ≡ true
-utf8 c = sym (c .before .is-utf8 .ensures) ∙ not-false _ (c .if2 .left)
+utf8 c = sym (the tie.After-is-utf8 (search) .is-utf8 .ensures) ∙ not-false _ (c .if2 .left)
 
 abbrev started : tie.After-headers-of → tie.Start
 started c = start (search)
@@ -36,12 +36,12 @@ within c =
 returns : tie.Need-returns
 returns c =
     let args = the tie.Start (search) .args in
-    no-message (args .m) (args .head .now) (args .name .now) (args .n) (sym (c .before .message-holds .ensures) ∙ not-true _ (c .if1 .taken))
+    no-message (args .m) (args .head .now) (args .name .now) (args .n) (sym (the tie.After-message-holds (search) .message-holds .ensures) ∙ not-true _ (c .if1 .taken))
 
 returns-2 : tie.Need-returns-2
 returns-2 c =
     let args = start (search) .args in
-    λ o _. no-name (args .m) (args .head .now) (args .name .now) (args .n) (sym (c .before .is-utf8 .ensures) ∙ not-true _ (c .if2 .taken)) o
+    λ o _. no-name (args .m) (args .head .now) (args .name .now) (args .n) (sym (the tie.After-is-utf8 (search) .is-utf8 .ensures) ∙ not-true _ (c .if2 .taken)) o
 
 headers-of-requires : tie.Need-headers-of-requires
 headers-of-requires c κs = holds (search)

@@ -43,19 +43,19 @@ value-len-requires : tie.Need-value-len-requires
 value-len-requires c κs = omega (arith, within (search))
 
 add-from : tie.Need-add-from
-add-from c = omega (arith, within (search), c .before .name-len .ensures .0, c .value-len .ensures .0)
+add-from c = omega (arith, within (search), the tie.After-name-len (search) .name-len .ensures .0, c .value-len .ensures .0)
 
 add-from-2 : tie.Need-add-from-2
-add-from-2 c = omega (arith, within (search), c .before .name-len .ensures .0, c .value-len .ensures .0)
+add-from-2 c = omega (arith, within (search), the tie.After-name-len (search) .name-len .ensures .0, c .value-len .ensures .0)
 
 add-from-3 : tie.Need-add-from-3
-add-from-3 c = omega (arith, within (search), c .before .name-len .ensures .0, c .value-len .ensures .0)
+add-from-3 c = omega (arith, within (search), the tie.After-name-len (search) .name-len .ensures .0, c .value-len .ensures .0)
 
 tail-len-requires : tie.Need-tail-len-requires
 tail-len-requires c κs = omega (arith, within (search))
 
 add-to : tie.Need-add-to
-add-to c = omega (arith, within (search), the tie.After-name-len (search) .name-len .ensures .0, c .before .value-len .ensures .0, c .tail-len .ensures .0)
+add-to c = omega (arith, within (search), the tie.After-name-len (search) .name-len .ensures .0, the tie.After-value-len (search) .value-len .ensures .0, c .tail-len .ensures .0)
 
 param-count-requires : tie.Need-param-count-requires
 param-count-requires c κs = omega (arith, within (search))

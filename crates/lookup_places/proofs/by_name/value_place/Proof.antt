@@ -56,7 +56,7 @@ returns-2 c =
     let args = the tie.Start (search) .args in
     λ o held.
     spot-value (args .head .now) _ (called found .header-place .result) (nthHeader o (args .name .now) (args .n)) (called found .header-place .ensures o held) (not-false _ (found .if1 .left)) _ _
-    (c .before .name-len .ensures .0) (c .value-len .ensures .0)
+    (the tie.After-name-len (search) .name-len .ensures .0) (c .value-len .ensures .0)
 
 pub value-place-spec : {M : Type 1} → statement M
 value-place-spec =

@@ -43,7 +43,7 @@ returns-2 c =
     let args = start .args in
     λ es l.
     pair-found (args .s .now) (args .from) (args .to) (args .count) (args .n) (start .pre .0) (start .pre .1) es l (omega arith) (passed .pass-first .result) _ _ (passed .pass-first .ensures)
-    (omega (arith, within passed)) (c .before .name-len .ensures .0) (c .value-len .ensures .0)
+    (omega (arith, within passed)) (the tie.After-name-len (search) .name-len .ensures .0) (c .value-len .ensures .0)
 
 pub nth-pair-spec : {M : Type 1} → statement M
 nth-pair-spec =

@@ -10,7 +10,7 @@ use Rattle.lookup_places.proofs.standing.address_place.Statement.{state
 use Rattle.lookup_places.proofs.standing.address_place.Tie as tie
 
 returns : tie.Need-returns
-returns c = no-address (the tie.Start (search) .args .value .now) _ _ (not-true _ (c .if1 .taken)) (c .before .address .ensures)
+returns c = no-address (the tie.Start (search) .args .value .now) _ _ (not-true _ (c .if1 .taken)) (the tie.After-address (search) .address .ensures)
 
 add-t8 : tie.Need-add-t8
 add-t8 c =
@@ -19,7 +19,7 @@ add-t8 c =
 
 returns-2 : tie.Need-returns-2
 returns-2 c =
-    address-there (the tie.Start (search) .args .value .now) _ (c .find-byte .result) (c .find-byte .ensures) _ (not-false _ (c .before .if1 .left)) (the tie.After-address (search) .address .ensures)
+    address-there (the tie.Start (search) .args .value .now) _ (c .find-byte .result) (c .find-byte .ensures) _ (not-false _ (the tie.Else1 (search) .if1 .left)) (the tie.After-address (search) .address .ensures)
 
 pub address-place-spec : {M : Type 1} → statement M
 address-place-spec = tie.close (tie.spec (λ c κs. search needs) returns (λ c κs. search needs) add-t8 returns-2)

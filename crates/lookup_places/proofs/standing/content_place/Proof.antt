@@ -11,7 +11,7 @@ use Rattle.lookup_places.proofs.standing.content_place.Statement.{state
 use Rattle.lookup_places.proofs.standing.content_place.Tie as tie
 
 holds : (c : tie.Else1) → messageHolds (the tie.Start (search) .args .m) (the tie.Start (search) .args .head .now) ≡ true
-holds c = sym (c .before .message-holds .ensures) ∙ not-false _ (c .if1 .left)
+holds c = sym (the tie.After-message-holds (search) .message-holds .ensures) ∙ not-false _ (c .if1 .left)
 
 returns : tie.Need-returns
 returns c =

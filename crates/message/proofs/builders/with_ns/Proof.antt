@@ -24,7 +24,7 @@ returns c =
     let head = args .head .now in
     let p = args .prefix .now in
     let u = args .uri .now in
-    call-refused (with-ns p u) m head p u _ refl (two-texts (isUtf8 p) (isUtf8 u)) (the tie.After-ready (search) .ready .ensures) _ (c .before .if1 .taken) (c .refused .ensures)
+    call-refused (with-ns p u) m head p u _ refl (two-texts (isUtf8 p) (isUtf8 u)) (the tie.After-ready (search) .ready .ensures) _ (the tie.Then1 (search) .if1 .taken) (c .refused .ensures)
 
 returns-2 : tie.Need-returns-2
 unfolding arguments all lends headerHeld change addHeader
@@ -34,7 +34,7 @@ returns-2 c =
     let head = args .head .now in
     let p = args .prefix .now in
     let u = args .uri .now in
-    call-done (with-ns p u) m head p u _ refl (two-texts (isUtf8 p) (isUtf8 u)) (the tie.After-ready (search) .ready .ensures) (the tie.Else1 (search) .if1 .left) _ _ (λ k held. handed-on m head _ _ (headerValue (nsValue p u)) _ (c .refused2 .ensures) (ns-over p u _ (omega arith) (c .before .three-more .ensures)) (omega arith))
+    call-done (with-ns p u) m head p u _ refl (two-texts (isUtf8 p) (isUtf8 u)) (the tie.After-ready (search) .ready .ensures) (the tie.Else1 (search) .if1 .left) _ _ (λ k held. handed-on m head _ _ (headerValue (nsValue p u)) _ (c .refused2 .ensures) (ns-over p u _ (omega arith) (the tie.After-three-more (search) .three-more .ensures)) (omega arith))
 
 slice-aggregate-add-held-2 : tie.Need-slice-aggregate-add-held-2
 slice-aggregate-add-held-2 c = simp length-take (omega arith)

@@ -27,7 +27,7 @@ returns c =
     let head = args .head .now in
     let v = args .subject .now in
     let l = args .lang .now in
-    call-refused (with-subject-lang v l) m head v l _ refl (two-texts (isUtf8 v) (isUtf8 l)) (the tie.After-ready (search) .ready .ensures) _ (c .before .if1 .taken) (c .refused .ensures)
+    call-refused (with-subject-lang v l) m head v l _ refl (two-texts (isUtf8 v) (isUtf8 l)) (the tie.After-ready (search) .ready .ensures) _ (the tie.Then1 (search) .if1 .taken) (c .refused .ensures)
 
 abbrev start-before-validate-cpim-header-value : tie.After-validate-cpim-header-value → tie.Start
 start-before-validate-cpim-header-value p = search
@@ -40,7 +40,7 @@ returns-2 c =
     let head = args .head .now in
     let v = args .subject .now in
     let l = args .lang .now in
-    call-done (with-subject-lang v l) m head v l _ refl (two-texts (isUtf8 v) (isUtf8 l)) (the tie.After-ready (search) .ready .ensures) (the tie.Else1 (search) .if1 .left) _ _ (λ k held. subject-value m head v l k _ _ (handed-on m head _ _ (headerValue v) _ (c .refused2 .ensures) (the tie.After-validate-cpim-header-value (search) .validate-cpim-header-value .ensures) (c .before .if2 .taken)))
+    call-done (with-subject-lang v l) m head v l _ refl (two-texts (isUtf8 v) (isUtf8 l)) (the tie.After-ready (search) .ready .ensures) (the tie.Else1 (search) .if1 .left) _ _ (λ k held. subject-value m head v l k _ _ (handed-on m head _ _ (headerValue v) _ (c .refused2 .ensures) (the tie.After-validate-cpim-header-value (search) .validate-cpim-header-value .ensures) (the tie.Then2 (search) .if2 .taken)))
 
 abbrev ready-before-validate-param-value : tie.After-validate-param-value → tie.After-ready
 ready-before-validate-param-value p = search
@@ -57,7 +57,7 @@ returns-3 c =
     let v = args .subject .now in
     let l = args .lang .now in
     let value = zero-passes (headerValue v) _ (the tie.After-validate-cpim-header-value (search) .validate-cpim-header-value .ensures) (the tie.Else2 (search) .if2 .left) in
-    call-done (with-subject-lang v l) m head v l _ refl (two-texts (isUtf8 v) (isUtf8 l)) (ready-before-validate-param-value (search) .ready .ensures) (else1-before-validate-param-value (search) .if1 .left) _ _ (λ k held. subject-param m head v l k _ _ value (handed-on m head _ _ (paramValue l) _ (c .refused3 .ensures) (the tie.After-validate-param-value (search) .validate-param-value .ensures) (c .before .if3 .taken)))
+    call-done (with-subject-lang v l) m head v l _ refl (two-texts (isUtf8 v) (isUtf8 l)) (ready-before-validate-param-value (search) .ready .ensures) (else1-before-validate-param-value (search) .if1 .left) _ _ (λ k held. subject-param m head v l k _ _ value (handed-on m head _ _ (paramValue l) _ (c .refused3 .ensures) (the tie.After-validate-param-value (search) .validate-param-value .ensures) (the tie.Then3 (search) .if3 .taken)))
 
 put-entry-requires : tie.Need-put-entry-requires
 put-entry-requires c κs =

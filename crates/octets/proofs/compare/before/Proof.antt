@@ -37,7 +37,7 @@ returns-2 : tie.Need-returns-2 Inv-loop μ-loop
 returns-2 c =
     let at-loop : tie.At-loop Inv-loop μ-loop = search in
     let args = the (tie.Start Inv-loop μ-loop) (search) .args in
-    sym (at-loop .loop .inv .3 ∙ before-ends (args .a .now) (args .b .now) (at-loop .loop .i) (omega (arith, at-loop .before .shorter .ensures)))
+    sym (at-loop .loop .inv .3 ∙ before-ends (args .a .now) (args .b .now) (at-loop .loop .i) (omega (arith, the (tie.After-shorter Inv-loop μ-loop) (search) .shorter .ensures)))
 
 pub before-spec : {M : Type 1} → statement M
 before-spec =

@@ -10,7 +10,9 @@ use Rattle.octets.proofs.compare.lower.Tie as tie
 
 returns : tie.Need-returns
 unfolding lower
-returns c = rw (lt-leb 65 (c .before .args .b) (omega arith)) refl
+returns c =
+    let start : tie.Start = search in
+    rw (lt-leb 65 (start .args .b) (omega arith)) refl
 
 returns-2 : tie.Need-returns-2
 unfolding lower

@@ -18,10 +18,10 @@ abbrev μ-loop : tie.MeasureT-loop
 μ-loop a b i₀ i = length a - i
 
 returns : tie.Need-returns Inv-loop μ-loop
-returns c = sym (same-lengths (c .before .args .a .now) (c .before .args .b .now) (c .if1 .taken))
+returns c = sym (same-lengths (the (tie.Start Inv-loop μ-loop) (search) .args .a .now) (the (tie.Start Inv-loop μ-loop) (search) .args .b .now) (c .if1 .taken))
 
 loop-holds : tie.Need-loop-holds Inv-loop μ-loop
-loop-holds c = (omega arith, same-begins (c .before .args .a .now) (c .before .args .b .now) (omega arith))
+loop-holds c = (omega arith, same-begins (the (tie.Start Inv-loop μ-loop) (search) .args .a .now) (the (tie.Start Inv-loop μ-loop) (search) .args .b .now) (omega arith))
 
 shared-slice-read-if2-2 : tie.Need-shared-slice-read-if2-2 Inv-loop μ-loop
 shared-slice-read-if2-2 c = omega arith

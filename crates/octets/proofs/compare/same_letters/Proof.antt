@@ -47,7 +47,7 @@ returns-2 c =
     i
     (simp length-map (omega arith))
     (simp length-map (omega arith))
-    (λ e. c .if2 .taken (the (tie.After-lower Inv-loop μ-loop) (search) .lower .ensures ∙ sym (lower-at a i) ∙ sym e ∙ lower-at b i ∙ sym (c .before .lower2 .ensures))))
+    (λ e. c .if2 .taken (the (tie.After-lower Inv-loop μ-loop) (search) .lower .ensures ∙ sym (lower-at a i) ∙ sym e ∙ lower-at b i ∙ sym (the (tie.After-lower2 Inv-loop μ-loop) (search) .lower2 .ensures))))
 
 loop-again : tie.Need-loop-again Inv-loop μ-loop
 loop-again c =
@@ -57,7 +57,7 @@ loop-again c =
     let i = at-loop .loop .i in (
       omega arith,
       at-loop .loop .inv .1
-          ∙ begins-step (map lower a) (map lower b) i i (simp length-map (omega arith)) (simp length-map (omega arith)) (lower-at b i ∙ sym (c .before .lower2 .ensures) ∙ sym (c .if2 .left) ∙ the (tie.After-lower Inv-loop μ-loop) (search) .lower .ensures ∙ sym (lower-at a i)),
+          ∙ begins-step (map lower a) (map lower b) i i (simp length-map (omega arith)) (simp length-map (omega arith)) (lower-at b i ∙ sym (the (tie.After-lower2 Inv-loop μ-loop) (search) .lower2 .ensures) ∙ sym (c .if2 .left) ∙ the (tie.After-lower Inv-loop μ-loop) (search) .lower .ensures ∙ sym (lower-at a i)),
     )
 
 returns-3 : tie.Need-returns-3 Inv-loop μ-loop

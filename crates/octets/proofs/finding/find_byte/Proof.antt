@@ -44,13 +44,14 @@ returns c =
 
 loop-again : tie.Need-loop-again Inv-loop μ-loop
 loop-again c =
+    let at-has-byte : tie.After-has-byte Inv-loop μ-loop = search in
     let at-loop : tie.At-loop Inv-loop μ-loop = search in
     let args = the (tie.Start Inv-loop μ-loop) (search) .args in
     let s = args .s .now in
     let i = at-loop .loop .i in
     let n : i + 16 - i ≡ 16 = omega arith in
     let e : has (args .c) (take 16 (drop i s)) ≡ false =
-    ap (λ (k : ℕ). has (args .c) (take k (drop i s))) (sym n) ∙ sym (c .before .has-byte .ensures) ∙ c .if1 .left in
+    ap (λ (k : ℕ). has (args .c) (take k (drop i s))) (sym n) ∙ sym (at-has-byte .has-byte .ensures) ∙ c .if1 .left in
     let q = upTo-skip (args .c) 16 (drop i s) (simp length-drop (omega arith)) e in
     (omega arith, at-loop .loop .inv .1 ∙ rw (q, drop-drop 16 i s) (omega arith))
 

@@ -22,19 +22,19 @@ loop-holds c = omega arith
 returns : tie.Need-returns Inv-loop μ-loop
 returns c =
     let at-loop : tie.At-loop Inv-loop μ-loop = search in
-    let args = at-loop .before .args in
+    let args = the (tie.Start Inv-loop μ-loop) (search) .args in
     omega (arith, upTo-found (args .c) (args .s .now) (at-loop .loop .i) (omega arith) (c .if1 .taken))
 
 loop-again : tie.Need-loop-again Inv-loop μ-loop
 loop-again c =
     let at-loop : tie.At-loop Inv-loop μ-loop = search in
-    let args = at-loop .before .args in
+    let args = the (tie.Start Inv-loop μ-loop) (search) .args in
     omega (arith, upTo-other (args .c) (args .s .now) (at-loop .loop .i) (omega arith) (c .if1 .left))
 
 returns-2 : tie.Need-returns-2 Inv-loop μ-loop
 returns-2 c =
     let args = the (tie.Start Inv-loop μ-loop) (search) .args in
-    omega (arith, upTo-end (args .c) (args .s .now) (c .before .loop .i) (omega arith))
+    omega (arith, upTo-end (args .c) (args .s .now) (the (tie.At-loop Inv-loop μ-loop) (search) .loop .i) (omega arith))
 
 pub find-byte-plain-spec : {M : Type 1} → statement M
 find-byte-plain-spec = tie.close (tie.spec Inv-loop μ-loop loop-holds (λ c. search needs) returns (λ c. search needs) (λ c. search needs) loop-again returns-2)

@@ -18,7 +18,7 @@ abbrev μ-loop : tie.MeasureT-loop
 μ-loop s₀ from to n i₀ s i = n - i
 
 loop-holds : tie.Need-loop-holds Inv-loop μ-loop
-loop-holds c = (omega arith, sym (pasted-nil (c .before .args .to) (c .before .args .s .now)), refl)
+loop-holds c = (omega arith, sym (pasted-nil (the (tie.Start Inv-loop μ-loop) (search) .args .to) (the (tie.Start Inv-loop μ-loop) (search) .args .s .now)), refl)
 
 sub-loop : tie.Need-sub-loop Inv-loop μ-loop
 sub-loop c = omega arith

@@ -18,7 +18,7 @@ abbrev μ-loop : tie.MeasureT-loop
 
 loop-holds : tie.Need-loop-holds Inv-loop μ-loop
 loop-holds c =
-    let args = c .before .args in
+    let args = the (tie.Start Inv-loop μ-loop) (search) .args in
     (omega arith, shifted-none (args .from) (args .to) (args .n) (args .s .now), refl)
 
 add-shift-part : tie.Need-add-shift-part Inv-loop μ-loop

@@ -2,7 +2,7 @@
 use native.Mathlib.Omega.{arith}
 use borrow.Author.Needs.{needs}
 use Rattle.format.proofs.Typed.{the}
-use Rattle.read.proofs.SectionLine.{line-empty, line-filled}
+use Rattle.read.proofs.HeaderSectionLine.{line-empty, line-filled}
 use Rattle.read.proofs.section_lines.header_line.Statement.{statement}
 use Rattle.read.proofs.section_lines.header_line.Tie as tie
 

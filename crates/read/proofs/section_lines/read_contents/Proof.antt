@@ -36,25 +36,25 @@ abbrev step-at : tie.At-loop Inv-loop μ-loop → Bytes → Message → Out Mess
 step-at c = readContentLine (lengths (headLent (the (tie.Start Inv-loop μ-loop) (search) .args .m) (the (tie.Start Inv-loop μ-loop) (search) .args .head .now)))
 
 abbrev end-at : tie.At-loop Inv-loop μ-loop → Bytes
-end-at c = lineEndFor (c .before .crlf-lines .result)
+end-at c = lineEndFor (the (tie.After-crlf-lines Inv-loop μ-loop) (search) .crlf-lines .result)
 
 -- the next line and the others
 abbrev line-at : tie.After-struct-known Inv-loop μ-loop → Bytes
-line-at c = take (c .before .cut-line .result .end) (drop (the (tie.At-loop Inv-loop μ-loop) (search) .loop .at) (section-at (search)))
+line-at c = take (the (tie.After-cut-line Inv-loop μ-loop) (search) .cut-line .result .end) (drop (the (tie.At-loop Inv-loop μ-loop) (search) .loop .at) (section-at (search)))
 
 abbrev others-at : tie.After-struct-known Inv-loop μ-loop → List Bytes
-others-at c = others (the (tie.After-crlf-lines Inv-loop μ-loop) (search) .crlf-lines .result) (section-at (search)) (the (tie.At-loop Inv-loop μ-loop) (search) .loop .at) (c .before .cut-line .result) (c .before .cut-line .ensures)
+others-at c = others (the (tie.After-crlf-lines Inv-loop μ-loop) (search) .crlf-lines .result) (section-at (search)) (the (tie.At-loop Inv-loop μ-loop) (search) .loop .at) (the (tie.After-cut-line Inv-loop μ-loop) (search) .cut-line .result) (the (tie.After-cut-line Inv-loop μ-loop) (search) .cut-line .ensures)
 
 cut : (c : tie.After-struct-known Inv-loop μ-loop) → pieces (split (end-at (search)) (drop (the (tie.At-loop Inv-loop μ-loop) (search) .loop .at) (section-at (search)))) ≡ line-at c ∷ others-at c
-cut c = next-line (the (tie.After-crlf-lines Inv-loop μ-loop) (search) .crlf-lines .result) (section-at (search)) (the (tie.At-loop Inv-loop μ-loop) (search) .loop .at) (c .before .cut-line .result) (c .before .cut-line .ensures)
+cut c = next-line (the (tie.After-crlf-lines Inv-loop μ-loop) (search) .crlf-lines .result) (section-at (search)) (the (tie.At-loop Inv-loop μ-loop) (search) .loop .at) (the (tie.After-cut-line Inv-loop μ-loop) (search) .cut-line .result) (the (tie.After-cut-line Inv-loop μ-loop) (search) .cut-line .ensures)
 
-end : (c : tie.After-struct-known Inv-loop μ-loop) → the (tie.At-loop Inv-loop μ-loop) (search) .loop .at + c .before .cut-line .result .end ≤ length (section-at (search))
-end c = end-within (the (tie.After-crlf-lines Inv-loop μ-loop) (search) .crlf-lines .result) (section-at (search)) (the (tie.At-loop Inv-loop μ-loop) (search) .loop .at) (c .before .cut-line .result) (c .before .cut-line .ensures) (the (tie.At-loop Inv-loop μ-loop) (search) .loop .inv .place)
+end : (c : tie.After-struct-known Inv-loop μ-loop) → the (tie.At-loop Inv-loop μ-loop) (search) .loop .at + the (tie.After-cut-line Inv-loop μ-loop) (search) .cut-line .result .end ≤ length (section-at (search))
+end c = end-within (the (tie.After-crlf-lines Inv-loop μ-loop) (search) .crlf-lines .result) (section-at (search)) (the (tie.At-loop Inv-loop μ-loop) (search) .loop .at) (the (tie.After-cut-line Inv-loop μ-loop) (search) .cut-line .result) (the (tie.After-cut-line Inv-loop μ-loop) (search) .cut-line .ensures) (the (tie.At-loop Inv-loop μ-loop) (search) .loop .inv .place)
 
 -- the place behind a line that others follow
-next : (c : tie.After-struct-known Inv-loop μ-loop) → c .before .cut-line .result .last ≡ false
-    → (the (tie.At-loop Inv-loop μ-loop) (search) .loop .at + c .before .cut-line .result .next ≤ length (section-at (search))) × (0 < c .before .cut-line .result .next)
-next c h = next-within (the (tie.After-crlf-lines Inv-loop μ-loop) (search) .crlf-lines .result) (section-at (search)) (the (tie.At-loop Inv-loop μ-loop) (search) .loop .at) (c .before .cut-line .result) (c .before .cut-line .ensures) (the (tie.At-loop Inv-loop μ-loop) (search) .loop .inv .place) h
+next : (c : tie.After-struct-known Inv-loop μ-loop) → the (tie.After-cut-line Inv-loop μ-loop) (search) .cut-line .result .last ≡ false
+    → (the (tie.At-loop Inv-loop μ-loop) (search) .loop .at + the (tie.After-cut-line Inv-loop μ-loop) (search) .cut-line .result .next ≤ length (section-at (search))) × (0 < the (tie.After-cut-line Inv-loop μ-loop) (search) .cut-line .result .next)
+next c h = next-within (the (tie.After-crlf-lines Inv-loop μ-loop) (search) .crlf-lines .result) (section-at (search)) (the (tie.At-loop Inv-loop μ-loop) (search) .loop .at) (the (tie.After-cut-line Inv-loop μ-loop) (search) .cut-line .result) (the (tie.After-cut-line Inv-loop μ-loop) (search) .cut-line .ensures) (the (tie.At-loop Inv-loop μ-loop) (search) .loop .inv .place) h
 
 loop-holds : tie.Need-loop-holds Inv-loop μ-loop
 loop-holds c =
@@ -92,7 +92,7 @@ returns c =
     let a : tie.At-loop Inv-loop μ-loop = search in
     let start : tie.Start Inv-loop μ-loop = search in
     line-refused (step-at a) (end-at a) (section-at a) (start .args .m) (start .args .head .now) (a .loop .at) (a .loop .so-far) (a .loop .head) (a .loop .inv) (line-at k) (others-at k) (cut k) _ _ _
-    (does-same _ _ _ readContentLine _ _ _ _ (lengths-kept _ _ _ _ (a .loop .inv .kept)) (part-is (a .loop .at) (k .before .cut-line .result .end) (section-at a)) (the (tie.After-read-content-line Inv-loop μ-loop) (search) .read-content-line .ensures))
+    (does-same _ _ _ readContentLine _ _ _ _ (lengths-kept _ _ _ _ (a .loop .inv .kept)) (part-is (a .loop .at) (the (tie.After-cut-line Inv-loop μ-loop) (search) .cut-line .result .end) (section-at a)) (the (tie.After-read-content-line Inv-loop μ-loop) (search) .read-content-line .ensures))
     (c .if1 .taken)
 
 returns-2 : tie.Need-returns-2 Inv-loop μ-loop
@@ -101,22 +101,18 @@ returns-2 c =
     let a : tie.At-loop Inv-loop μ-loop = search in
     let start : tie.Start Inv-loop μ-loop = search in
     line-last (step-at a) (end-at a) (section-at a) (start .args .m) (start .args .head .now) (a .loop .at) (a .loop .so-far) (a .loop .head) (a .loop .inv) (line-at k) (others-at k) (cut k) _ _ _
-    (does-same _ _ _ readContentLine _ _ _ _ (lengths-kept _ _ _ _ (a .loop .inv .kept)) (part-is (a .loop .at) (k .before .cut-line .result .end) (section-at a)) (the (tie.After-read-content-line Inv-loop μ-loop) (search) .read-content-line .ensures))
-    (content-line-valid _) (c .before .if1 .left)
-    (no-others _ _ _ _ (k .before .cut-line .ensures) (c .if2 .taken))
+    (does-same _ _ _ readContentLine _ _ _ _ (lengths-kept _ _ _ _ (a .loop .inv .kept)) (part-is (a .loop .at) (the (tie.After-cut-line Inv-loop μ-loop) (search) .cut-line .result .end) (section-at a)) (the (tie.After-read-content-line Inv-loop μ-loop) (search) .read-content-line .ensures))
+    (content-line-valid _) (the (tie.Else1 Inv-loop μ-loop) (search) .if1 .left)
+    (no-others _ _ _ _ (the (tie.After-cut-line Inv-loop μ-loop) (search) .cut-line .ensures) (c .if2 .taken))
 
 add-at : tie.Need-add-at Inv-loop μ-loop
 add-at c =
     let k : tie.After-struct-known Inv-loop μ-loop = search in
-    let a : tie.At-loop Inv-loop μ-loop = search in
-    let start : tie.Start Inv-loop μ-loop = search in
     record { fits = omega (arith, end k, next k (the (tie.Else2 Inv-loop μ-loop) (search) .if2 .left)) }
 
 loop-less : tie.Need-loop-less Inv-loop μ-loop
 loop-less c =
     let k : tie.After-struct-known Inv-loop μ-loop = search in
-    let a : tie.At-loop Inv-loop μ-loop = search in
-    let start : tie.Start Inv-loop μ-loop = search in
     omega (arith, next k (the (tie.Else2 Inv-loop μ-loop) (search) .if2 .left))
 
 loop-again : tie.Need-loop-again Inv-loop μ-loop
@@ -125,11 +121,11 @@ loop-again c =
     let a : tie.At-loop Inv-loop μ-loop = search in
     let start : tie.Start Inv-loop μ-loop = search in
     line-next (step-at a) (end-at a) (section-at a) (start .args .m) (start .args .head .now) (a .loop .at) (a .loop .so-far) (a .loop .head) (a .loop .inv) (line-at k) (others-at k) (cut k) _ _ _
-    (does-same _ _ _ readContentLine _ _ _ _ (lengths-kept _ _ _ _ (a .loop .inv .kept)) (part-is (a .loop .at) (k .before .cut-line .result .end) (section-at a)) (the (tie.After-read-content-line Inv-loop μ-loop) (search) .read-content-line .ensures))
+    (does-same _ _ _ readContentLine _ _ _ _ (lengths-kept _ _ _ _ (a .loop .inv .kept)) (part-is (a .loop .at) (the (tie.After-cut-line Inv-loop μ-loop) (search) .cut-line .result .end) (section-at a)) (the (tie.After-read-content-line Inv-loop μ-loop) (search) .read-content-line .ensures))
     (content-line-valid _) (the (tie.Else1 Inv-loop μ-loop) (search) .if1 .left) _
     (next k (the (tie.Else2 Inv-loop μ-loop) (search) .if2 .left) .0)
     (the (tie.After-read-content-line Inv-loop μ-loop) (search) .read-content-line .kept .1 .1 .0)
-    (more-others _ _ _ _ (k .before .cut-line .ensures) (the (tie.Else2 Inv-loop μ-loop) (search) .if2 .left))
+    (more-others _ _ _ _ (the (tie.After-cut-line Inv-loop μ-loop) (search) .cut-line .ensures) (the (tie.Else2 Inv-loop μ-loop) (search) .if2 .left))
 
 pub read-contents-spec : {M : Type 1} → statement M
 read-contents-spec =

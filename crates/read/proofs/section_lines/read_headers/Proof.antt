@@ -13,7 +13,7 @@ use Rattle.format.specs.Message.{Message}
 use Rattle.format.specs.Reading.{readHeader, readHeaderLine}
 use Rattle.format.specs.Lending.{headLent, lengths}
 use Rattle.format.proofs.Typed.{the}
-use Rattle.read.proofs.SectionLine.{header-line-valid}
+use Rattle.read.proofs.HeaderSectionLine.{header-line-valid}
 use Rattle.message_edit.proofs.MessageBounds.{part-is}
 use Rattle.sections.specs.Cuts.{lineEndFor}
 use Rattle.sections.proofs.Cutting.{lines-are}
@@ -36,25 +36,25 @@ abbrev step-at : tie.At-loop Inv-loop μ-loop → Bytes → Message → Out Mess
 step-at c = readHeaderLine readHeader (lengths (headLent (the (tie.Start Inv-loop μ-loop) (search) .args .m) (the (tie.Start Inv-loop μ-loop) (search) .args .head .now)))
 
 abbrev end-at : tie.At-loop Inv-loop μ-loop → Bytes
-end-at c = lineEndFor (c .before .crlf-lines .result)
+end-at c = lineEndFor (the (tie.After-crlf-lines Inv-loop μ-loop) (search) .crlf-lines .result)
 
 -- the next line and the others
 abbrev line-at : tie.After-struct-known Inv-loop μ-loop → Bytes
-line-at c = take (c .before .cut-line .result .end) (drop (the (tie.At-loop Inv-loop μ-loop) (search) .loop .at) (section-at (search)))
+line-at c = take (the (tie.After-cut-line Inv-loop μ-loop) (search) .cut-line .result .end) (drop (the (tie.At-loop Inv-loop μ-loop) (search) .loop .at) (section-at (search)))
 
 abbrev others-at : tie.After-struct-known Inv-loop μ-loop → List Bytes
-others-at c = others (the (tie.After-crlf-lines Inv-loop μ-loop) (search) .crlf-lines .result) (section-at (search)) (the (tie.At-loop Inv-loop μ-loop) (search) .loop .at) (c .before .cut-line .result) (c .before .cut-line .ensures)
+others-at c = others (the (tie.After-crlf-lines Inv-loop μ-loop) (search) .crlf-lines .result) (section-at (search)) (the (tie.At-loop Inv-loop μ-loop) (search) .loop .at) (the (tie.After-cut-line Inv-loop μ-loop) (search) .cut-line .result) (the (tie.After-cut-line Inv-loop μ-loop) (search) .cut-line .ensures)
 
 cut : (c : tie.After-struct-known Inv-loop μ-loop) → pieces (split (end-at (search)) (drop (the (tie.At-loop Inv-loop μ-loop) (search) .loop .at) (section-at (search)))) ≡ line-at c ∷ others-at c
-cut c = next-line (the (tie.After-crlf-lines Inv-loop μ-loop) (search) .crlf-lines .result) (section-at (search)) (the (tie.At-loop Inv-loop μ-loop) (search) .loop .at) (c .before .cut-line .result) (c .before .cut-line .ensures)
+cut c = next-line (the (tie.After-crlf-lines Inv-loop μ-loop) (search) .crlf-lines .result) (section-at (search)) (the (tie.At-loop Inv-loop μ-loop) (search) .loop .at) (the (tie.After-cut-line Inv-loop μ-loop) (search) .cut-line .result) (the (tie.After-cut-line Inv-loop μ-loop) (search) .cut-line .ensures)
 
-end : (c : tie.After-struct-known Inv-loop μ-loop) → the (tie.At-loop Inv-loop μ-loop) (search) .loop .at + c .before .cut-line .result .end ≤ length (section-at (search))
-end c = end-within (the (tie.After-crlf-lines Inv-loop μ-loop) (search) .crlf-lines .result) (section-at (search)) (the (tie.At-loop Inv-loop μ-loop) (search) .loop .at) (c .before .cut-line .result) (c .before .cut-line .ensures) (the (tie.At-loop Inv-loop μ-loop) (search) .loop .inv .0 .place)
+end : (c : tie.After-struct-known Inv-loop μ-loop) → the (tie.At-loop Inv-loop μ-loop) (search) .loop .at + the (tie.After-cut-line Inv-loop μ-loop) (search) .cut-line .result .end ≤ length (section-at (search))
+end c = end-within (the (tie.After-crlf-lines Inv-loop μ-loop) (search) .crlf-lines .result) (section-at (search)) (the (tie.At-loop Inv-loop μ-loop) (search) .loop .at) (the (tie.After-cut-line Inv-loop μ-loop) (search) .cut-line .result) (the (tie.After-cut-line Inv-loop μ-loop) (search) .cut-line .ensures) (the (tie.At-loop Inv-loop μ-loop) (search) .loop .inv .0 .place)
 
 -- the place behind a line that others follow
-next : (c : tie.After-struct-known Inv-loop μ-loop) → c .before .cut-line .result .last ≡ false
-    → (the (tie.At-loop Inv-loop μ-loop) (search) .loop .at + c .before .cut-line .result .next ≤ length (section-at (search))) × (0 < c .before .cut-line .result .next)
-next c h = next-within (the (tie.After-crlf-lines Inv-loop μ-loop) (search) .crlf-lines .result) (section-at (search)) (the (tie.At-loop Inv-loop μ-loop) (search) .loop .at) (c .before .cut-line .result) (c .before .cut-line .ensures) (the (tie.At-loop Inv-loop μ-loop) (search) .loop .inv .0 .place) h
+next : (c : tie.After-struct-known Inv-loop μ-loop) → the (tie.After-cut-line Inv-loop μ-loop) (search) .cut-line .result .last ≡ false
+    → (the (tie.At-loop Inv-loop μ-loop) (search) .loop .at + the (tie.After-cut-line Inv-loop μ-loop) (search) .cut-line .result .next ≤ length (section-at (search))) × (0 < the (tie.After-cut-line Inv-loop μ-loop) (search) .cut-line .result .next)
+next c h = next-within (the (tie.After-crlf-lines Inv-loop μ-loop) (search) .crlf-lines .result) (section-at (search)) (the (tie.At-loop Inv-loop μ-loop) (search) .loop .at) (the (tie.After-cut-line Inv-loop μ-loop) (search) .cut-line .result) (the (tie.After-cut-line Inv-loop μ-loop) (search) .cut-line .ensures) (the (tie.At-loop Inv-loop μ-loop) (search) .loop .inv .0 .place) h
 
 loop-holds : tie.Need-loop-holds Inv-loop μ-loop
 loop-holds c =
@@ -87,12 +87,13 @@ start-before-cut-line p = search
 
 header-line-requires : tie.Need-header-line-requires Inv-loop μ-loop
 header-line-requires c κs =
+    let at-cut-line : tie.After-cut-line Inv-loop μ-loop = search in
     let k : tie.After-struct-known Inv-loop μ-loop = search in
     let a : tie.At-loop Inv-loop μ-loop = search in
     let start = start-before-cut-line (search) in (
       still-held (step-at a) (end-at a) (section-at a) (start .args .m) (start .args .head .now) (a .loop .at) (a .loop .so-far) (a .loop .head) (a .loop .inv .0) (start .pre .0),
       (
-        rw (part-is (a .loop .at) (k .before .cut-line .result .end) (section-at a))
+        rw (part-is (a .loop .at) (at-cut-line .cut-line .result .end) (section-at a))
             (line-utf8 (step-at a) (end-at a) (section-at a) (start .args .m) (start .args .head .now) (a .loop .at) (a .loop .so-far) (a .loop .head) (a .loop .inv .0) (line-at k) (others-at k) (cut k)),
         omega (arith, a .loop .inv .1),
       ),
@@ -104,7 +105,7 @@ returns c =
     let a : tie.At-loop Inv-loop μ-loop = search in
     let start : tie.Start Inv-loop μ-loop = search in
     line-refused (step-at a) (end-at a) (section-at a) (start .args .m) (start .args .head .now) (a .loop .at) (a .loop .so-far) (a .loop .head) (a .loop .inv .0) (line-at k) (others-at k) (cut k) _ _ _
-    (does-same _ _ _ (readHeaderLine readHeader) _ _ _ _ (lengths-kept _ _ _ _ (a .loop .inv .0 .kept)) (part-is (a .loop .at) (k .before .cut-line .result .end) (section-at a)) (the (tie.After-header-line Inv-loop μ-loop) (search) .header-line .ensures))
+    (does-same _ _ _ (readHeaderLine readHeader) _ _ _ _ (lengths-kept _ _ _ _ (a .loop .inv .0 .kept)) (part-is (a .loop .at) (the (tie.After-cut-line Inv-loop μ-loop) (search) .cut-line .result .end) (section-at a)) (the (tie.After-header-line Inv-loop μ-loop) (search) .header-line .ensures))
     (c .if1 .taken)
 
 returns-2 : tie.Need-returns-2 Inv-loop μ-loop
@@ -113,22 +114,18 @@ returns-2 c =
     let a : tie.At-loop Inv-loop μ-loop = search in
     let start : tie.Start Inv-loop μ-loop = search in
     line-last (step-at a) (end-at a) (section-at a) (start .args .m) (start .args .head .now) (a .loop .at) (a .loop .so-far) (a .loop .head) (a .loop .inv .0) (line-at k) (others-at k) (cut k) _ _ _
-    (does-same _ _ _ (readHeaderLine readHeader) _ _ _ _ (lengths-kept _ _ _ _ (a .loop .inv .0 .kept)) (part-is (a .loop .at) (k .before .cut-line .result .end) (section-at a)) (the (tie.After-header-line Inv-loop μ-loop) (search) .header-line .ensures))
-    (header-line-valid _) (c .before .if1 .left)
-    (no-others _ _ _ _ (k .before .cut-line .ensures) (c .if2 .taken))
+    (does-same _ _ _ (readHeaderLine readHeader) _ _ _ _ (lengths-kept _ _ _ _ (a .loop .inv .0 .kept)) (part-is (a .loop .at) (the (tie.After-cut-line Inv-loop μ-loop) (search) .cut-line .result .end) (section-at a)) (the (tie.After-header-line Inv-loop μ-loop) (search) .header-line .ensures))
+    (header-line-valid _) (the (tie.Else1 Inv-loop μ-loop) (search) .if1 .left)
+    (no-others _ _ _ _ (the (tie.After-cut-line Inv-loop μ-loop) (search) .cut-line .ensures) (c .if2 .taken))
 
 add-at : tie.Need-add-at Inv-loop μ-loop
 add-at c =
     let k : tie.After-struct-known Inv-loop μ-loop = search in
-    let a : tie.At-loop Inv-loop μ-loop = search in
-    let start : tie.Start Inv-loop μ-loop = search in
     record { fits = omega (arith, end k, next k (the (tie.Else2 Inv-loop μ-loop) (search) .if2 .left)) }
 
 loop-less : tie.Need-loop-less Inv-loop μ-loop
 loop-less c =
     let k : tie.After-struct-known Inv-loop μ-loop = search in
-    let a : tie.At-loop Inv-loop μ-loop = search in
-    let start : tie.Start Inv-loop μ-loop = search in
     omega (arith, next k (the (tie.Else2 Inv-loop μ-loop) (search) .if2 .left))
 
 abbrev header-line-before-so-far : tie.After-so-far Inv-loop μ-loop → tie.After-header-line Inv-loop μ-loop
@@ -141,9 +138,9 @@ loop-again c =
     let start : tie.Start Inv-loop μ-loop = search in
     let call = header-line-before-so-far (search) .header-line in (
       line-next (step-at a) (end-at a) (section-at a) (start .args .m) (start .args .head .now) (a .loop .at) (a .loop .so-far) (a .loop .head) (a .loop .inv .0) (line-at k) (others-at k) (cut k) _ _ _
-          (does-same _ _ _ (readHeaderLine readHeader) _ _ _ _ (lengths-kept _ _ _ _ (a .loop .inv .0 .kept)) (part-is (a .loop .at) (k .before .cut-line .result .end) (section-at a)) (call .ensures))
+          (does-same _ _ _ (readHeaderLine readHeader) _ _ _ _ (lengths-kept _ _ _ _ (a .loop .inv .0 .kept)) (part-is (a .loop .at) (the (tie.After-cut-line Inv-loop μ-loop) (search) .cut-line .result .end) (section-at a)) (call .ensures))
           (header-line-valid _) (the (tie.Else1 Inv-loop μ-loop) (search) .if1 .left) _ (next k (the (tie.Else2 Inv-loop μ-loop) (search) .if2 .left) .0) (call .kept .1 .1 .0)
-          (more-others _ _ _ _ (k .before .cut-line .ensures) (the (tie.Else2 Inv-loop μ-loop) (search) .if2 .left)),
+          (more-others _ _ _ _ (the (tie.After-cut-line Inv-loop μ-loop) (search) .cut-line .ensures) (the (tie.Else2 Inv-loop μ-loop) (search) .if2 .left)),
       call .kept .1 .1 .1 .0 ∙ a .loop .inv .1,
     )
 

@@ -13,7 +13,7 @@ use Rattle.read_header_line.proofs.params.read_param.Tie as tie
 returns : tie.Need-returns
 returns c =
     let args = the tie.Start (search) .args in
-    λ ps s. part-skipped (args .h) (args .room .now) (args .part .now) ps (sym (c .before .has .ensures) ∙ not-true _ (c .if1 .taken)) s
+    λ ps s. part-skipped (args .h) (args .room .now) (args .part .now) ps (sym (the tie.After-has (search) .has .ensures) ∙ not-true _ (c .if1 .taken)) s
 
 set-param-held-requires : tie.Need-set-param-held-requires
 set-param-held-requires c κs =

@@ -17,13 +17,13 @@ loop-holds : tie.Need-loop-holds Inv-loop μ-loop
 loop-holds c = spelt-start (c .args .n) (c .args .digits .now) (c .pre) (omega arith)
 
 loop-again : tie.Need-loop-again Inv-loop μ-loop
-loop-again c = spelt-more (c .before .loop .inv) (c .loop-test .taken)
+loop-again c = spelt-more (the (tie.At-loop Inv-loop μ-loop) (search) .loop .inv) (c .loop-test .taken)
 
 same-length : tie.Need-same-length Inv-loop μ-loop
-same-length c = simp length-set (omega (arith, c .before .loop .inv .size, the (tie.Start Inv-loop μ-loop) (search) .pre))
+same-length c = simp length-set (omega (arith, the (tie.At-loop Inv-loop μ-loop) (search) .loop .inv .size, the (tie.Start Inv-loop μ-loop) (search) .pre))
 
 returns : tie.Need-returns Inv-loop μ-loop
-returns c = (omega (arith, c .before .loop .inv .within), spelt-last (c .before .loop .inv) (omega arith))
+returns c = (omega (arith, the (tie.At-loop Inv-loop μ-loop) (search) .loop .inv .within), spelt-last (the (tie.At-loop Inv-loop μ-loop) (search) .loop .inv) (omega arith))
 
 pub spell-spec : {M : Type 1} → statement M
 spell-spec =

@@ -5,13 +5,13 @@ use Rattle.report.proofs.telling.of_header.Statement.{statement}
 use Rattle.report.proofs.telling.of_header.Tie as tie
 
 returns : tie.Need-returns
-returns c = two-is (c .before .args .clause) (c .if1 .taken)
+returns c = two-is (the tie.Start (search) .args .clause) (c .if1 .taken)
 
 returns-2 : tie.Need-returns-2
-returns-2 c = five-is (the tie.Start (search) .args .clause) (c .before .if1 .left) (c .if2 .taken)
+returns-2 c = five-is (the tie.Start (search) .args .clause) (the tie.Else1 (search) .if1 .left) (c .if2 .taken)
 
 returns-3 : tie.Need-returns-3
-returns-3 c = eight-is (the tie.Start (search) .args .clause) (c .before .if1 .left) (c .if2 .left)
+returns-3 c = eight-is (the tie.Start (search) .args .clause) (the tie.Else1 (search) .if1 .left) (c .if2 .left)
 
 pub of-header-spec : {M : Type 1} → statement M
 of-header-spec = tie.close (tie.spec returns returns-2 returns-3)

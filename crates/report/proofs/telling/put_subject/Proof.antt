@@ -42,7 +42,7 @@ returns-3 : tie.Need-returns-3
 returns-3 c =
     let args = the tie.Start (search) .args in
     λ k held.
-    of-none k (args .clause) (args .entry) (sym (the tie.After-of-header (search) .of-header .ensures) ∙ the tie.Else1 (search) .if1 .left) (sym (c .before .of-content .ensures) ∙ c .if2 .left) (args .at) (args .out .now)
+    of-none k (args .clause) (args .entry) (sym (the tie.After-of-header (search) .of-header .ensures) ∙ the tie.Else1 (search) .if1 .left) (sym (the tie.After-of-content (search) .of-content .ensures) ∙ c .if2 .left) (args .at) (args .out .now)
 
 pub put-subject-spec : {M : Type 1} → statement M
 put-subject-spec =

@@ -13,7 +13,7 @@ abbrev μ-loop : tie.MeasureT-loop
 μ-loop s n at₀ i₀ at i = n - i
 
 loop-holds : tie.Need-loop-holds Inv-loop μ-loop
-loop-holds c = passed-none (c .before .args .s .now) (c .before .args .n)
+loop-holds c = passed-none (the (tie.Start Inv-loop μ-loop) (search) .args .s .now) (the (tie.Start Inv-loop μ-loop) (search) .args .n)
 
 sub-at : tie.Need-sub-at Inv-loop μ-loop
 sub-at c = passed-within (the (tie.At-loop Inv-loop μ-loop) (search) .loop .inv) (c .past .result .now) (c .past .ensures .0)

@@ -9,7 +9,7 @@ use Rattle.roundtrip.proofs.clauses.content_clear.Statement.{statement}
 use Rattle.roundtrip.proofs.clauses.content_clear.Tie as tie
 
 name-at-requires : tie.Need-name-at-requires
-name-at-requires c κs = c .before .pre
+name-at-requires c κs = the tie.Start (search) .pre
 
 value-at-requires : tie.Need-value-at-requires
 value-at-requires c κs = the tie.Start (search) .pre
@@ -22,7 +22,7 @@ returns c =
 returns-2 : tie.Need-returns-2
 returns-2 c =
     let args = the tie.Start (search) .args in
-    c .before .clear-ends2 .ensures
+    the tie.After-clear-ends2 (search) .clear-ends2 .ensures
     ∙ content-both (drop (args .at) (args .s .now)) (the tie.After-name-at (search) .name-at .result .now) (the tie.After-value-at (search) .value-at .result .now) (the tie.After-name-at (search) .name-at .ensures) (the tie.After-value-at (search) .value-at .ensures)
     (sym (the tie.After-clear-ends (search) .clear-ends .ensures) ∙ not-false _ (c .if1 .left))
 

@@ -23,14 +23,14 @@ loop-holds c =
 meets-requires : tie.Need-meets-requires Inv-loop μ-loop
 meets-requires c κs =
     let args = the (tie.Start Inv-loop μ-loop) (search) .args in
-    let l = c .before .loop in
+    let l = the (tie.At-loop Inv-loop μ-loop) (search) .loop in
     walked-shaped (meets (args .clause)) (args .s .now) (args .count) (l .at) (l .i) (l .inv) (omega arith)
 
 returns : tie.Need-returns Inv-loop μ-loop
 returns c =
     let args = the (tie.Start Inv-loop μ-loop) (search) .args in
     let l = the (tie.At-loop Inv-loop μ-loop) (search) .loop in
-    walked-stop (meets (args .clause)) (args .s .now) (args .count) (l .at) (l .i) (l .inv) (omega arith) (sym (c .before .meets .ensures) ∙ not-true _ (c .if1 .taken))
+    walked-stop (meets (args .clause)) (args .s .now) (args .count) (l .at) (l .i) (l .inv) (omega arith) (sym (the (tie.After-meets Inv-loop μ-loop) (search) .meets .ensures) ∙ not-true _ (c .if1 .taken))
 
 entry-len-requires : tie.Need-entry-len-requires Inv-loop μ-loop
 entry-len-requires c κs =
@@ -52,14 +52,15 @@ loop-less c = omega arith
 
 loop-again : tie.Need-loop-again Inv-loop μ-loop
 loop-again c =
+    let at-else1 : tie.Else1 Inv-loop μ-loop = search in
     let args = the (tie.Start Inv-loop μ-loop) (search) .args in
     let l = the (tie.At-loop Inv-loop μ-loop) (search) .loop in
-    rw (c .entry-len .ensures .0) (walked-on (meets (args .clause)) (args .s .now) (args .count) (l .at) (l .i) (l .inv) (omega arith) (sym (the (tie.After-meets Inv-loop μ-loop) (search) .meets .ensures) ∙ not-false _ (c .before .if1 .left)))
+    rw (c .entry-len .ensures .0) (walked-on (meets (args .clause)) (args .s .now) (args .count) (l .at) (l .i) (l .inv) (omega arith) (sym (the (tie.After-meets Inv-loop μ-loop) (search) .meets .ensures) ∙ not-false _ (at-else1 .if1 .left)))
 
 returns-2 : tie.Need-returns-2 Inv-loop μ-loop
 returns-2 c =
     let args = the (tie.Start Inv-loop μ-loop) (search) .args in
-    let l = c .before .loop in
+    let l = the (tie.At-loop Inv-loop μ-loop) (search) .loop in
     walked-end (meets (args .clause)) (args .s .now) (args .count) (l .at) (l .i) (l .inv) (omega arith)
 
 pub count-passing-spec : {M : Type 1} → statement M

@@ -14,9 +14,6 @@ use Rattle.roundtrip.specs.Clauses.{meets}
 use Rattle.roundtrip.proofs.clauses.meets.Statement.{statement}
 use Rattle.roundtrip.proofs.clauses.meets.Tie as tie
 
-enum-told : tie.Need-enum-told
-enum-told c = search needs
-
 param-count-requires : tie.Need-param-count-requires
 param-count-requires c κs = within-numbers (the tie.Start (search) .args .s .now) (the tie.Start (search) .args .at) (the tie.Start (search) .pre)
 
@@ -34,28 +31,37 @@ value-at-requires c κs = the tie.Start (search) .pre
 
 returns : tie.Need-returns
 unfolding meets storedIn
-returns c = rw (c .before .enum-told .given .1) (ap (λ (n : ℕ). eqb n 0) (c .param-count .ensures .0))
+returns c =
+    let at-enum-told : tie.After-enum-told = search in
+    rw (at-enum-told .enum-told .given .1) (ap (λ (n : ℕ). eqb n 0) (c .param-count .ensures .0))
 
 returns-2 : tie.Need-returns-2
 unfolding meets notType storedIn
 returns-2 c =
-    rw (the tie.After-enum-told2 (search) .enum-told2 .given .1) (ap not (c .is-type .ensures ∙ ap (sameLetters (ascii "Content-type")) (c .before .name-at .ensures)))
+    let at-name-at : tie.After-name-at = search in
+    rw (the tie.After-enum-told2 (search) .enum-told2 .given .1) (ap not (c .is-type .ensures ∙ ap (sameLetters (ascii "Content-type")) (at-name-at .name-at .ensures)))
 
 returns-3 : tie.Need-returns-3
 unfolding meets clearName storedIn
-returns-3 c = rw (the tie.After-enum-told3 (search) .enum-told3 .given .1) (c .clear-ends .ensures ∙ ap (clearEnds isWhite) (c .before .name-at2 .ensures))
+returns-3 c =
+    let at-name-at2 : tie.After-name-at2 = search in
+    rw (the tie.After-enum-told3 (search) .enum-told3 .given .1) (c .clear-ends .ensures ∙ ap (clearEnds isWhite) (at-name-at2 .name-at2 .ensures))
 
 returns-4 : tie.Need-returns-4
 unfolding meets
-returns-4 c = rw (c .before .enum-told4 .given .1) (c .content-clear .ensures)
+returns-4 c =
+    let at-enum-told4 : tie.After-enum-told4 = search in
+    rw (at-enum-told4 .enum-told4 .given .1) (c .content-clear .ensures)
 
 returns-5 : tie.Need-returns-5
 unfolding meets clearValue storedIn
-returns-5 c = rw (the tie.After-enum-told5 (search) .enum-told5 .given .1) (c .clear-of-lost .ensures ∙ ap (clearEnds isLost) (c .before .value-at .ensures))
+returns-5 c =
+    let at-value-at : tie.After-value-at = search in
+    rw (the tie.After-enum-told5 (search) .enum-told5 .given .1) (c .clear-of-lost .ensures ∙ ap (clearEnds isLost) (at-value-at .value-at .ensures))
 
 pub meets-spec : {M : Type 1} → statement M
 meets-spec =
     tie.close
-    (tie.spec enum-told param-count-requires (λ c. search needs) name-at-requires (λ c κs. search needs) (λ c. search needs) name-at-requires-2
+    (tie.spec (λ c. search needs) param-count-requires (λ c. search needs) name-at-requires (λ c κs. search needs) (λ c. search needs) name-at-requires-2
     (λ c κs. search needs) (λ c. search needs) content-clear-requires (λ c. search needs) value-at-requires (λ c κs. search needs) returns returns-2
     returns-3 returns-4 returns-5)

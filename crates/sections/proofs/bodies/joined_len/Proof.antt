@@ -24,14 +24,14 @@ abbrev rest-at : tie.At-loop Inv-loop μ-loop → List ℕ
 rest-at c = the (tie.Start Inv-loop μ-loop) (search) .args .rest .now
 
 -- a separator was found, or none is left
-more : (c : tie.Else1 Inv-loop μ-loop) → More LFLF (drop (the (tie.At-loop Inv-loop μ-loop) (search) .loop .at) (rest-at (search))) (drop (the (tie.At-loop Inv-loop μ-loop) (search) .loop .at + c .before .cut .result .next) (rest-at (search))) (c .before .cut .result)
-more c = rest-more LFLF (rest-at (search)) (the (tie.At-loop Inv-loop μ-loop) (search) .loop .at) (c .before .cut .result) (c .before .cut .ensures) (omega arith) (c .if1 .left)
+more : (c : tie.Else1 Inv-loop μ-loop) → More LFLF (drop (the (tie.At-loop Inv-loop μ-loop) (search) .loop .at) (rest-at (search))) (drop (the (tie.At-loop Inv-loop μ-loop) (search) .loop .at + the (tie.After-cut Inv-loop μ-loop) (search) .cut .result .next) (rest-at (search))) (the (tie.After-cut Inv-loop μ-loop) (search) .cut .result)
+more c = rest-more LFLF (rest-at (search)) (the (tie.At-loop Inv-loop μ-loop) (search) .loop .at) (the (tie.After-cut Inv-loop μ-loop) (search) .cut .result) (the (tie.After-cut Inv-loop μ-loop) (search) .cut .ensures) (omega arith) (c .if1 .left)
 
-end : (c : tie.Then1 Inv-loop μ-loop) → length (joined (drop (the (tie.At-loop Inv-loop μ-loop) (search) .loop .at) (rest-at (search)))) ≡ c .before .cut .result .end
+end : (c : tie.Then1 Inv-loop μ-loop) → length (joined (drop (the (tie.At-loop Inv-loop μ-loop) (search) .loop .at) (rest-at (search)))) ≡ the (tie.After-cut Inv-loop μ-loop) (search) .cut .result .end
 end c =
     ap length (joined-last (drop (the (tie.At-loop Inv-loop μ-loop) (search) .loop .at) (rest-at (search)))
-    (rest-last LFLF (rest-at (search)) (the (tie.At-loop Inv-loop μ-loop) (search) .loop .at) (c .before .cut .result) (c .before .cut .ensures) (c .if1 .taken)))
-    ∙ sym (rest-whole LFLF (rest-at (search)) (the (tie.At-loop Inv-loop μ-loop) (search) .loop .at) (c .before .cut .result) (c .before .cut .ensures) (c .if1 .taken))
+    (rest-last LFLF (rest-at (search)) (the (tie.At-loop Inv-loop μ-loop) (search) .loop .at) (the (tie.After-cut Inv-loop μ-loop) (search) .cut .result) (the (tie.After-cut Inv-loop μ-loop) (search) .cut .ensures) (c .if1 .taken)))
+    ∙ sym (rest-whole LFLF (rest-at (search)) (the (tie.At-loop Inv-loop μ-loop) (search) .loop .at) (the (tie.After-cut Inv-loop μ-loop) (search) .cut .result) (the (tie.After-cut Inv-loop μ-loop) (search) .cut .ensures) (c .if1 .taken))
 
 loop-holds : tie.Need-loop-holds Inv-loop μ-loop
 loop-holds c = (omega arith, omega arith, omega arith)

@@ -12,10 +12,10 @@ use Rattle.sections.proofs.fields.past.Statement.{statement}
 use Rattle.sections.proofs.fields.past.Tie as tie
 
 -- the byte was found within the text
-inside : (c : tie.Else1) → c .before .find-byte .result < length (the tie.Start (search) .args .s .now)
+inside : (c : tie.Else1) → the tie.After-find-byte (search) .find-byte .result < length (the tie.Start (search) .args .s .now)
 inside c =
     let args = the tie.Start (search) .args in
-    omega (arith, found-within (args .c) (args .s .now) (c .before .find-byte .result) (c .before .find-byte .ensures))
+    omega (arith, found-within (args .c) (args .s .now) (the tie.After-find-byte (search) .find-byte .result) (the tie.After-find-byte (search) .find-byte .ensures))
 
 returns : tie.Need-returns
 returns c =

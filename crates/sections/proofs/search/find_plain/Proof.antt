@@ -33,7 +33,9 @@ places-holds : tie.Need-places-holds Inv-loop μ-loop Inv-places μ-places
 places-holds c = (omega arith, omega arith)
 
 loop-holds : tie.Need-loop-holds Inv-loop μ-loop Inv-places μ-places
-loop-holds c = (omega arith, omega arith, rw (add-zero (c .before .places .place)) refl)
+loop-holds c =
+    let at-places : tie.At-places Inv-loop μ-loop Inv-places μ-places = search in
+    (omega arith, omega arith, rw (add-zero (at-places .places .place)) refl)
 
 loop-again : tie.Need-loop-again Inv-loop μ-loop Inv-places μ-places
 loop-again c =
@@ -61,7 +63,7 @@ returns : tie.Need-returns Inv-loop μ-loop Inv-places μ-places
 returns c =
     let text = the (tie.Start Inv-loop μ-loop Inv-places μ-places) (search) .args .text .now in
     let pattern = the (tie.Start Inv-loop μ-loop Inv-places μ-places) (search) .args .pattern .now in
-    let at = c .before .places .place in
+    let at = the (tie.At-places Inv-loop μ-loop Inv-places μ-places) (search) .places .place in
     omega (arith, place-short pattern (drop at text) (simp length-drop (omega arith)), length-drop at text)
 
 returns-2 : tie.Need-returns-2 Inv-loop μ-loop Inv-places μ-places
@@ -69,8 +71,9 @@ returns-2 c =
     let text = the (tie.Start Inv-loop μ-loop Inv-places μ-places) (search) .args .text .now in
     let pattern = the (tie.Start Inv-loop μ-loop Inv-places μ-places) (search) .args .pattern .now in
     let at = the (tie.At-places Inv-loop μ-loop Inv-places μ-places) (search) .places .place in
+    let compared : tie.At-loop Inv-loop μ-loop Inv-places μ-places = search in
     let whole : begins pattern (drop at text) ≡ true =
-    c .before .loop .inv .2 ∙ rw (c .if2 .taken) (begins-done pattern (drop (at + length pattern) text)) in
+    compared .loop .inv .2 ∙ rw (c .if2 .taken) (begins-done pattern (drop (at + length pattern) text)) in
     omega (arith, place-here pattern (drop at text) (omega arith) whole)
 
 pub find-plain-spec : {M : Type 1} → statement M

@@ -44,9 +44,11 @@ loop-again c =
 
 returns : tie.Need-returns Inv-loop μ-loop
 returns c =
-    let at = the (tie.Start Inv-loop μ-loop) (search) .args in
-    let k : length (at .text .now) ≡ c .before .loop .k = omega arith in
-    sym (c .before .loop .inv .1 ∙ rw (sym k, near-end (at .first) (at .last) (at .text .now)) (or-false (eqb (c .before .loop .low) 0)))
+    let start : tie.Start Inv-loop μ-loop = search in
+    let at-loop : tie.At-loop Inv-loop μ-loop = search in
+    let at = start .args in
+    let k : length (at .text .now) ≡ at-loop .loop .k = omega arith in
+    sym (at-loop .loop .inv .1 ∙ rw (sym k, near-end (at .first) (at .last) (at .text .now)) (or-false (eqb (at-loop .loop .low) 0)))
 
 pub near-in-spec : {M : Type 1} → statement M
 near-in-spec =

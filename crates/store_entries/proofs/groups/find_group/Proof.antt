@@ -19,7 +19,7 @@ sub-pass c =
     let start : tie.Start = search in
     let s = start .args .s .now in
     let count = start .args .count in
-    let left = rest (passedOver false (start .args .name .now)) count s _ _ (start .pre) (c .before .pass .ensures .0) (c .before .pass .ensures .1) in
+    let left = rest (passedOver false (start .args .name .now)) count s _ _ (start .pre) (the tie.After-pass (search) .pass .ensures .0) (the tie.After-pass (search) .pass .ensures .1) in
     omega (arith, left .within)
 
 pass-requires-2 : tie.Need-pass-requires-2
@@ -27,7 +27,7 @@ pass-requires-2 c κs =
     let start : tie.Start = search in
     let s = start .args .s .now in
     let count = start .args .count in
-    let left = rest (passedOver false (start .args .name .now)) count s _ _ (start .pre) (c .before .pass .ensures .0) (c .before .pass .ensures .1) in
+    let left = rest (passedOver false (start .args .name .now)) count s _ _ (start .pre) (the tie.After-pass (search) .pass .ensures .0) (the tie.After-pass (search) .pass .ensures .1) in
     left .left
 
 returns : tie.Need-returns

@@ -54,7 +54,7 @@ returns c =
     let size = at-loop .loop .size in
     let many = at-loop .loop .many in
     let walk = at-loop .loop .inv in
-    let stop = walk-stop p s (args .from) (args .count) size many walk (omega arith) (passed-is (args .equal) (args .name .now) (drop (args .from + size) s) _ _ (the (tie.After-name-at Inv-loop μ-loop) (search) .name-at .ensures) (c .before .is-passed .ensures) ∙ not-true _ (c .if1 .taken)) in
+    let stop = walk-stop p s (args .from) (args .count) size many walk (omega arith) (passed-is (args .equal) (args .name .now) (drop (args .from + size) s) _ _ (the (tie.After-name-at Inv-loop μ-loop) (search) .name-at .ensures) (the (tie.After-is-passed Inv-loop μ-loop) (search) .is-passed .ensures) ∙ not-true _ (c .if1 .taken)) in
     (sym (stop .0), sym (stop .1))
 
 entry-len-requires : tie.Need-entry-len-requires Inv-loop μ-loop
@@ -84,6 +84,7 @@ loop-less c = omega arith
 
 loop-again : tie.Need-loop-again Inv-loop μ-loop
 loop-again c =
+    let at-else1 : tie.Else1 Inv-loop μ-loop = search in
     let at-loop : tie.At-loop Inv-loop μ-loop = search in
     let args = the (tie.Start Inv-loop μ-loop) (search) .args in
     let p = passedOver (args .equal) (args .name .now) in
@@ -91,7 +92,7 @@ loop-again c =
     let size = at-loop .loop .size in
     let many = at-loop .loop .many in
     let walk = at-loop .loop .inv in
-    let on = walk-on p s (args .from) (args .count) size many walk (omega arith) (passed-is (args .equal) (args .name .now) (drop (args .from + size) s) _ _ (the (tie.After-name-at Inv-loop μ-loop) (search) .name-at .ensures) (the (tie.After-is-passed Inv-loop μ-loop) (search) .is-passed .ensures) ∙ not-false _ (c .before .if1 .left)) in
+    let on = walk-on p s (args .from) (args .count) size many walk (omega arith) (passed-is (args .equal) (args .name .now) (drop (args .from + size) s) _ _ (the (tie.After-name-at Inv-loop μ-loop) (search) .name-at .ensures) (the (tie.After-is-passed Inv-loop μ-loop) (search) .is-passed .ensures) ∙ not-false _ (at-else1 .if1 .left)) in
     rw (c .entry-len .ensures .0) on
 
 returns-2 : tie.Need-returns-2 Inv-loop μ-loop

@@ -16,15 +16,15 @@ returns c =
 returns-2 : tie.Need-returns-2
 returns-2 c =
     let args = the tie.Start (search) .args in
-    sym (name-light (args .kind) (args .name .now) (sym (c .before .is-light .ensures) ∙ c .if2 .taken) (the tie.Else1 (search) .if1 .left))
+    sym (name-light (args .kind) (args .name .now) (sym (the tie.After-is-light (search) .is-light .ensures) ∙ c .if2 .taken) (the tie.Else1 (search) .if1 .left))
 
 returns-3 : tie.Need-returns-3
 unfolding nameFits
-returns-3 c = fails _ _ (c .before .name-passes .ensures) (c .if3 .taken)
+returns-3 c = fails _ _ (the tie.After-name-passes (search) .name-passes .ensures) (c .if3 .taken)
 
 returns-4 : tie.Need-returns-4
 unfolding nameFits
-returns-4 c = c .is-utf8 .ensures ∙ goes-on _ _ (the tie.After-name-passes (search) .name-passes .ensures) (c .before .if3 .left)
+returns-4 c = c .is-utf8 .ensures ∙ goes-on _ _ (the tie.After-name-passes (search) .name-passes .ensures) (the tie.Else3 (search) .if3 .left)
 
 pub name-fits-spec : {M : Type 1} → statement M
 name-fits-spec =

@@ -15,16 +15,16 @@ returns : tie.Need-returns
 returns c =
     let args = the tie.Start (search) .args in
     let limit : the tie.After-limit-of (search) .limit-of .result ≡ limitOf (args .kind) = the tie.After-limit-of (search) .limit-of .ensures in
-    let light : isLight (limitOf (args .kind)) (args .value .now) ≡ true = sym (c .before .is-light .ensures ∙ ap (λ (n : ℕ). isLight n (args .value .now)) limit) ∙ c .if1 .taken in
+    let light : isLight (limitOf (args .kind)) (args .value .now) ≡ true = sym (the tie.After-is-light (search) .is-light .ensures ∙ ap (λ (n : ℕ). isLight n (args .value .now)) limit) ∙ c .if1 .taken in
     sym (value-light (args .kind) (args .value .now) light)
 
 returns-2 : tie.Need-returns-2
 unfolding valueFits
-returns-2 c = fails _ _ (c .before .value-passes .ensures) (c .if2 .taken)
+returns-2 c = fails _ _ (the tie.After-value-passes (search) .value-passes .ensures) (c .if2 .taken)
 
 returns-3 : tie.Need-returns-3
 unfolding valueFits
-returns-3 c = c .is-utf8 .ensures ∙ goes-on _ _ (the tie.After-value-passes (search) .value-passes .ensures) (c .before .if2 .left)
+returns-3 c = c .is-utf8 .ensures ∙ goes-on _ _ (the tie.After-value-passes (search) .value-passes .ensures) (the tie.Else2 (search) .if2 .left)
 
 pub value-fits-spec : {M : Type 1} → statement M
 value-fits-spec =

@@ -9,9 +9,6 @@ use Rattle.store_entry_check.proofs.InTurn.{empty-length}
 use Rattle.store_entry_check.proofs.kinds.params_fit.Statement.{statement}
 use Rattle.store_entry_check.proofs.kinds.params_fit.Tie as tie
 
-enum-told : tie.Need-enum-told
-enum-told c = search needs
-
 returns : tie.Need-returns
 unfolding paramsFit
 returns c = rw (c .enum-told .given .1) refl
@@ -30,4 +27,4 @@ returns-3 c =
 
 pub params-fit-spec : {M : Type 1} → statement M
 params-fit-spec =
-    tie.close (tie.spec enum-told (λ c. search needs) (λ c. search needs) returns returns-2 returns-3)
+    tie.close (tie.spec (λ c. search needs) (λ c. search needs) (λ c. search needs) returns returns-2 returns-3)

@@ -30,7 +30,7 @@ returns-2 c =
     let s = args .s .now in
     let i = args .i in (
       c .scalar .ensures .0
-          ∙ ap scalarOf (c .before .four-digits .ensures)
+          ∙ ap scalarOf (the tie.After-four-digits (search) .four-digits .ensures)
           ∙ scalar-four (getD s i 0) (getD s (i + 1) 0) (getD s (i + 2) 0) (getD s (i + 3) 0)
           ∙ sym (long-four s i (omega arith)),
       c .scalar .ensures .1,

@@ -9,7 +9,7 @@ use Rattle.unescape.proofs.backslash.scalar.Statement.{statement}
 use Rattle.unescape.proofs.backslash.scalar.Tie as tie
 
 returns : tie.Need-returns
-returns c = (sym (scalar-below (c .before .args .n) (omega arith)), omega arith)
+returns c = (sym (scalar-below (the tie.Start (search) .args .n) (omega arith)), omega arith)
 
 returns-2 : tie.Need-returns-2
 returns-2 c = (sym (scalar-surrogate (the tie.Start (search) .args .n) (omega arith) (omega arith)), omega arith)

@@ -8,7 +8,7 @@ use Rattle.unescape.proofs.coding.code_len.Statement.{statement}
 use Rattle.unescape.proofs.coding.code_len.Tie as tie
 
 returns : tie.Need-returns
-returns c = sym (ap length (encoding-one (c .before .args .n) (omega arith)))
+returns c = sym (ap length (encoding-one (the tie.Start (search) .args .n) (omega arith)))
 
 returns-2 : tie.Need-returns-2
 returns-2 c = sym (ap length (encoding-two (the tie.Start (search) .args .n) (omega arith) (omega arith)))

@@ -12,11 +12,11 @@ use Rattle.unescape.proofs.coding.put_code.Statement.{statement}
 use Rattle.unescape.proofs.coding.put_code.Tie as tie
 
 slice-write-out : tie.Need-slice-write-out
-slice-write-out c = let n = c .before .args .n in omega (arith, ap length (encoding-one n (omega arith)))
+slice-write-out c = let n = the tie.Start (search) .args .n in omega (arith, ap length (encoding-one n (omega arith)))
 
 returns : tie.Need-returns
 returns c =
-    let args = c .before .args in
+    let args = the tie.Start (search) .args in
     let n = args .n in
     let e = encoding-one n (omega arith) in
     pasted-one (args .at) n (args .out .now) (omega (arith, ap length e)) ∙ ap (λ (l : Bytes). pasted (args .at) l (args .out .now)) (sym e)

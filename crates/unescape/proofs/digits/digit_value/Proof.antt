@@ -21,7 +21,7 @@ returns-3 c = sym (ap (orElse 16) (digit-lower (the tie.Start (search) .args .c)
 
 returns-4 : tie.Need-returns-4
 returns-4 c =
-    let x = c .before .args .c in
+    let x = the tie.Start (search) .args .c in
     sym
     (ap (orElse 16)
     (digit-none x (within-below x (48 to 57) (omega arith)) (within-below x (97 to 102) (omega arith)) (within-below x (65 to 70) (omega arith))))

@@ -17,22 +17,22 @@ returns c = empty-back (the tie.Start (search) .args .s .now) (c .if1 .taken)
 returns-2 : tie.Need-returns-2
 returns-2 c =
     let u = the tie.Start (search) .args .s .now in
-    back-lost u (length u - 1) (sym (ap isLost (rest-is u (length u - 1))) ∙ sym (c .before .is-lost .ensures) ∙ c .if2 .taken)
+    back-lost u (length u - 1) (sym (ap isLost (rest-is u (length u - 1))) ∙ sym (the tie.After-is-lost (search) .is-lost .ensures) ∙ c .if2 .taken)
 
 returns-3 : tie.Need-returns-3
 returns-3 c =
     let u = the tie.Start (search) .args .s .now in
-    back-kept u (sym (ap isLost (rest-is u (length u - 1))) ∙ sym (the tie.After-is-lost (search) .is-lost .ensures) ∙ c .before .if2 .left) (λ l. absurd (omega arith)) (λ l. absurd (omega arith))
+    back-kept u (sym (ap isLost (rest-is u (length u - 1))) ∙ sym (the tie.After-is-lost (search) .is-lost .ensures) ∙ the tie.Else2 (search) .if2 .left) (λ l. absurd (omega arith)) (λ l. absurd (omega arith))
 
 returns-4 : tie.Need-returns-4
 returns-4 c =
     let u = the tie.Start (search) .args .s .now in
-    back-lost u (length u - 2) (sym (ap isLost (rest-is u (length u - 2))) ∙ sym (c .before .is-lost2 .ensures) ∙ c .if4 .taken)
+    back-lost u (length u - 2) (sym (ap isLost (rest-is u (length u - 2))) ∙ sym (the tie.After-is-lost2 (search) .is-lost2 .ensures) ∙ c .if4 .taken)
 
 returns-5 : tie.Need-returns-5
 returns-5 c =
     let u = the tie.Start (search) .args .s .now in
-    back-kept u (sym (ap isLost (rest-is u (length u - 1))) ∙ sym (the tie.After-is-lost (search) .is-lost .ensures) ∙ the tie.Else2 (search) .if2 .left) (λ l. sym (ap isLost (rest-is u (length u - 2))) ∙ sym (the tie.After-is-lost2 (search) .is-lost2 .ensures) ∙ c .before .if4 .left) (λ l. absurd (omega arith))
+    back-kept u (sym (ap isLost (rest-is u (length u - 1))) ∙ sym (the tie.After-is-lost (search) .is-lost .ensures) ∙ the tie.Else2 (search) .if2 .left) (λ l. sym (ap isLost (rest-is u (length u - 2))) ∙ sym (the tie.After-is-lost2 (search) .is-lost2 .ensures) ∙ the tie.Else4 (search) .if4 .left) (λ l. absurd (omega arith))
 
 returns-6 : tie.Need-returns-6
 returns-6 c =

@@ -14,7 +14,7 @@ returns c = front-not (chars (the tie.Start (search) .args .s .now)) (sym (the t
 
 returns-2 : tie.Need-returns-2
 unfolding clearEnds
-returns-2 c = c .before .back-clear .ensures ∙ front-yes (chars (the tie.Start (search) .args .s .now)) (sym (the tie.After-front-clear (search) .front-clear .ensures) ∙ not-false _ (c .if1 .left))
+returns-2 c = the tie.After-back-clear (search) .back-clear .ensures ∙ front-yes (chars (the tie.Start (search) .args .s .now)) (sym (the tie.After-front-clear (search) .front-clear .ensures) ∙ not-false _ (c .if1 .left))
 
 pub clear-of-lost-spec : {M : Type 1} → statement M
 clear-of-lost-spec =

@@ -15,23 +15,23 @@ slice-aggregate-is-lost : tie.Need-slice-aggregate-is-lost
 slice-aggregate-is-lost c = sym (length-take-le 1 (the tie.Start (search) .args .s .now) (omega arith))
 
 returns-2 : tie.Need-returns-2
-returns-2 c = front-lost (the tie.Start (search) .args .s .now) 1 (sym (c .before .is-lost .ensures) ∙ c .if2 .taken)
+returns-2 c = front-lost (the tie.Start (search) .args .s .now) 1 (sym (the tie.After-is-lost (search) .is-lost .ensures) ∙ c .if2 .taken)
 
 returns-3 : tie.Need-returns-3
 returns-3 c =
     let u = the tie.Start (search) .args .s .now in
-    front-kept u (omega arith) (sym (the tie.After-is-lost (search) .is-lost .ensures) ∙ c .before .if2 .left) (λ l. absurd (omega arith)) (λ l. absurd (omega arith))
+    front-kept u (omega arith) (sym (the tie.After-is-lost (search) .is-lost .ensures) ∙ the tie.Else2 (search) .if2 .left) (λ l. absurd (omega arith)) (λ l. absurd (omega arith))
 
 slice-aggregate-is-lost-2 : tie.Need-slice-aggregate-is-lost-2
 slice-aggregate-is-lost-2 c = sym (length-take-le 2 (the tie.Start (search) .args .s .now) (omega arith))
 
 returns-4 : tie.Need-returns-4
-returns-4 c = front-lost (the tie.Start (search) .args .s .now) 2 (sym (c .before .is-lost2 .ensures) ∙ c .if4 .taken)
+returns-4 c = front-lost (the tie.Start (search) .args .s .now) 2 (sym (the tie.After-is-lost2 (search) .is-lost2 .ensures) ∙ c .if4 .taken)
 
 returns-5 : tie.Need-returns-5
 returns-5 c =
     let u = the tie.Start (search) .args .s .now in
-    front-kept u (omega arith) (sym (the tie.After-is-lost (search) .is-lost .ensures) ∙ the tie.Else2 (search) .if2 .left) (λ l. sym (the tie.After-is-lost2 (search) .is-lost2 .ensures) ∙ c .before .if4 .left) (λ l. absurd (omega arith))
+    front-kept u (omega arith) (sym (the tie.After-is-lost (search) .is-lost .ensures) ∙ the tie.Else2 (search) .if2 .left) (λ l. sym (the tie.After-is-lost2 (search) .is-lost2 .ensures) ∙ the tie.Else4 (search) .if4 .left) (λ l. absurd (omega arith))
 
 slice-aggregate-is-lost-3 : tie.Need-slice-aggregate-is-lost-3
 slice-aggregate-is-lost-3 c = sym (length-take-le 3 (the tie.Start (search) .args .s .now) (omega arith))

@@ -8,10 +8,10 @@ use Rattle.unicode.proofs.ends.is_lost.Statement.{statement}
 use Rattle.unicode.proofs.ends.is_lost.Tie as tie
 
 returns : tie.Need-returns
-returns c = lost-dark (the tie.Start (search) .args .g .now) (sym (c .before .is-white .ensures) ∙ not-true _ (c .if1 .taken))
+returns c = lost-dark (the tie.Start (search) .args .g .now) (sym (the tie.After-is-white (search) .is-white .ensures) ∙ not-true _ (c .if1 .taken))
 
 returns-2 : tie.Need-returns-2
-returns-2 c = lost-white (the tie.Start (search) .args .g .now) (the tie.After-is-control (search) .is-control .result) (sym (c .before .is-white .ensures) ∙ not-false _ (c .if1 .left)) (the tie.After-is-control (search) .is-control .ensures)
+returns-2 c = lost-white (the tie.Start (search) .args .g .now) (the tie.After-is-control (search) .is-control .result) (sym (the tie.After-is-white (search) .is-white .ensures) ∙ not-false _ (c .if1 .left)) (the tie.After-is-control (search) .is-control .ensures)
 
 pub is-lost-spec : {M : Type 1} → statement M
 is-lost-spec = tie.close (tie.spec (λ c κs. search needs) (λ c κs. search needs) returns returns-2)

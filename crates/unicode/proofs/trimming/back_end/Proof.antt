@@ -21,22 +21,22 @@ abbrev μ-loop : tie.MeasureT-loop
 μ-loop s end₀ end = end
 
 loop-holds : tie.Need-loop-holds Inv-loop μ-loop
-loop-holds c = (omega arith, ap (λ (x : List ℕ). dropBack isWhite (chars x)) (sym (take-length (c .before .args .s .now))))
+loop-holds c = (omega arith, ap (λ (x : List ℕ). dropBack isWhite (chars x)) (sym (take-length (the (tie.Start Inv-loop μ-loop) (search) .args .s .now))))
 
 slice-aggregate-white-back : tie.Need-slice-aggregate-white-back Inv-loop μ-loop
-slice-aggregate-white-back c = sym (length-take-le (c .before .loop .end) (the (tie.Start Inv-loop μ-loop) (search) .args .s .now) (c .before .loop .inv .0))
+slice-aggregate-white-back c = sym (length-take-le (the (tie.At-loop Inv-loop μ-loop) (search) .loop .end) (the (tie.Start Inv-loop μ-loop) (search) .args .s .now) (the (tie.At-loop Inv-loop μ-loop) (search) .loop .inv .0))
 
 returns : tie.Need-returns Inv-loop μ-loop
 returns c =
-    let step = c .before .white-back in
+    let step = the (tie.After-white-back Inv-loop μ-loop) (search) .white-back in
     let s = the (tie.Start Inv-loop μ-loop) (search) .args .s .now in
     let loop = the (tie.At-loop Inv-loop μ-loop) (search) .loop in
     (loop .inv .0, ap flat (loop .inv .1) ∙ back-stop s (loop .end) (step .result) (loop .inv .0) (step .ensures) (c .if1 .taken))
 
-inside : (c : tie.Else1 Inv-loop μ-loop) → c .before .white-back .result ≤ the (tie.At-loop Inv-loop μ-loop) (search) .loop .end
+inside : (c : tie.Else1 Inv-loop μ-loop) → the (tie.After-white-back Inv-loop μ-loop) (search) .white-back .result ≤ the (tie.At-loop Inv-loop μ-loop) (search) .loop .end
 inside c =
     let loop = the (tie.At-loop Inv-loop μ-loop) (search) .loop in
-    back-inside (the (tie.Start Inv-loop μ-loop) (search) .args .s .now) (loop .end) (c .before .white-back .result) (loop .inv .0) (c .before .white-back .ensures)
+    back-inside (the (tie.Start Inv-loop μ-loop) (search) .args .s .now) (loop .end) (the (tie.After-white-back Inv-loop μ-loop) (search) .white-back .result) (loop .inv .0) (the (tie.After-white-back Inv-loop μ-loop) (search) .white-back .ensures)
 
 sub-end : tie.Need-sub-end Inv-loop μ-loop
 sub-end c = omega (arith, inside c)
@@ -46,7 +46,7 @@ loop-less c = omega (arith, inside c)
 
 loop-again : tie.Need-loop-again Inv-loop μ-loop
 loop-again c =
-    let step = c .before .white-back in
+    let step = the (tie.After-white-back Inv-loop μ-loop) (search) .white-back in
     let s = the (tie.Start Inv-loop μ-loop) (search) .args .s .now in
     let loop = the (tie.At-loop Inv-loop μ-loop) (search) .loop in
     (omega (arith, loop .inv .0), loop .inv .1 ∙ back-on s (loop .end) (step .result) (loop .inv .0) (step .ensures) (c .if1 .left))

@@ -26,15 +26,15 @@ sub-white-front c = omega (arith, c .loop .inv .0)
 
 returns : tie.Need-returns Inv-loop μ-loop
 returns c =
-    let step = c .before .white-front in
+    let step = the (tie.After-white-front Inv-loop μ-loop) (search) .white-front in
     let s = the (tie.Start Inv-loop μ-loop) (search) .args .s .now in
     let loop = the (tie.At-loop Inv-loop μ-loop) (search) .loop in
     (loop .inv .0, loop .inv .1 ∙ front-stop s (loop .at) (step .result) (loop .inv .0) (step .ensures) (c .if1 .taken))
 
-inside : (c : tie.Else1 Inv-loop μ-loop) → the (tie.At-loop Inv-loop μ-loop) (search) .loop .at + c .before .white-front .result ≤ length (the (tie.Start Inv-loop μ-loop) (search) .args .s .now)
+inside : (c : tie.Else1 Inv-loop μ-loop) → the (tie.At-loop Inv-loop μ-loop) (search) .loop .at + the (tie.After-white-front Inv-loop μ-loop) (search) .white-front .result ≤ length (the (tie.Start Inv-loop μ-loop) (search) .args .s .now)
 inside c =
     let loop = the (tie.At-loop Inv-loop μ-loop) (search) .loop in
-    front-inside (the (tie.Start Inv-loop μ-loop) (search) .args .s .now) (loop .at) (c .before .white-front .result) (loop .inv .0) (c .before .white-front .ensures)
+    front-inside (the (tie.Start Inv-loop μ-loop) (search) .args .s .now) (loop .at) (the (tie.After-white-front Inv-loop μ-loop) (search) .white-front .result) (loop .inv .0) (the (tie.After-white-front Inv-loop μ-loop) (search) .white-front .ensures)
 
 add-at : tie.Need-add-at Inv-loop μ-loop
 add-at c = omega (arith, inside c)
@@ -44,7 +44,7 @@ loop-less c = omega (arith, inside c)
 
 loop-again : tie.Need-loop-again Inv-loop μ-loop
 loop-again c =
-    let step = c .before .white-front in
+    let step = the (tie.After-white-front Inv-loop μ-loop) (search) .white-front in
     let s = the (tie.Start Inv-loop μ-loop) (search) .args .s .now in
     let loop = the (tie.At-loop Inv-loop μ-loop) (search) .loop in
     (inside c, loop .inv .1 ∙ front-on s (loop .at) (step .result) (loop .inv .0) (step .ensures) (c .if1 .left))

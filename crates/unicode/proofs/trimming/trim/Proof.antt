@@ -7,7 +7,7 @@ use Rattle.unicode.proofs.trimming.trim.Statement.{statement}
 use Rattle.unicode.proofs.trimming.trim.Tie as tie
 
 returns : tie.Need-returns
-returns c = trimmed (the tie.Start (search) .args .s .now) (the tie.After-front-end (search) .front-end .result) (c .before .back-end .result) (the tie.After-front-end (search) .front-end .ensures .1) (c .before .back-end .ensures .1)
+returns c = trimmed (the tie.Start (search) .args .s .now) (the tie.After-front-end (search) .front-end .result) (the tie.After-back-end (search) .back-end .result) (the tie.After-front-end (search) .front-end .ensures .1) (the tie.After-back-end (search) .back-end .ensures .1)
 
 pub trim-spec : {M : Type 1} → statement M
 trim-spec =

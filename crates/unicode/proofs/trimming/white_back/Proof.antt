@@ -20,17 +20,17 @@ abbrev text : tie.Else2 → Bytes
 text c = the tie.Start (search) .args .u .now
 
 one-not : (c : tie.Else2) → isWhite (drop (length (text c) - 1) (text c)) ≡ false
-one-not c = ap isWhite (last-byte (text c) (omega arith)) ∙ sym (c .before .is-white-byte .ensures) ∙ c .if2 .left
+one-not c = ap isWhite (last-byte (text c) (omega arith)) ∙ sym (the tie.After-is-white-byte (search) .is-white-byte .ensures) ∙ c .if2 .left
 
 two-not : (c : tie.Else5) → isWhite (drop (length (text (search)) - 2) (text (search))) ≡ false
 two-not c =
     let u = text (search) in
-    sym (ap isWhite (rest-is u (length u - 2))) ∙ sym (c .before .is-white .ensures) ∙ c .if5 .left
+    sym (ap isWhite (rest-is u (length u - 2))) ∙ sym (the tie.After-is-white (search) .is-white .ensures) ∙ c .if5 .left
 
 three-not : (c : tie.Else7) → isWhite (drop (length (text (search)) - 3) (text (search))) ≡ false
 three-not c =
     let u = text (search) in
-    sym (ap isWhite (rest-is u (length u - 3))) ∙ sym (c .before .is-white2 .ensures) ∙ c .if7 .left
+    sym (ap isWhite (rest-is u (length u - 3))) ∙ sym (the tie.After-is-white2 (search) .is-white2 .ensures) ∙ c .if7 .left
 
 returns : tie.Need-returns
 returns c = no-back (the tie.Start (search) .args .u .now) (back-empty (the tie.Start (search) .args .u .now) (c .if1 .taken))
@@ -38,12 +38,12 @@ returns c = no-back (the tie.Start (search) .args .u .now) (back-empty (the tie.
 returns-2 : tie.Need-returns-2
 returns-2 c =
     let u = the tie.Start (search) .args .u .now in
-    a-back u 1 (omega arith) (omega arith) (ap isWhite (last-byte u (omega arith)) ∙ sym (c .before .is-white-byte .ensures) ∙ c .if2 .taken)
+    a-back u 1 (omega arith) (omega arith) (ap isWhite (last-byte u (omega arith)) ∙ sym (the tie.After-is-white-byte (search) .is-white-byte .ensures) ∙ c .if2 .taken)
 
 returns-3 : tie.Need-returns-3
 returns-3 c =
     let u = text (search) in
-    no-back u (back-low u (omega arith) (omega arith) (sym (the tie.After-is-white-byte (search) .is-white-byte .ensures) ∙ c .before .if2 .left))
+    no-back u (back-low u (omega arith) (omega arith) (sym (the tie.After-is-white-byte (search) .is-white-byte .ensures) ∙ the tie.Else2 (search) .if2 .left))
 
 returns-4 : tie.Need-returns-4
 returns-4 c =
@@ -53,7 +53,7 @@ returns-4 c =
 returns-5 : tie.Need-returns-5
 returns-5 c =
     let u = text (search) in
-    a-back u 2 (omega arith) (omega arith) (sym (ap isWhite (rest-is u (length u - 2))) ∙ sym (c .before .is-white .ensures) ∙ c .if5 .taken)
+    a-back u 2 (omega arith) (omega arith) (sym (ap isWhite (rest-is u (length u - 2))) ∙ sym (the tie.After-is-white (search) .is-white .ensures) ∙ c .if5 .taken)
 
 returns-6 : tie.Need-returns-6
 returns-6 c =
@@ -63,7 +63,7 @@ returns-6 c =
 returns-7 : tie.Need-returns-7
 returns-7 c =
     let u = text (search) in
-    a-back u 3 (omega arith) (omega arith) (sym (ap isWhite (rest-is u (length u - 3))) ∙ sym (c .before .is-white2 .ensures) ∙ c .if7 .taken)
+    a-back u 3 (omega arith) (omega arith) (sym (ap isWhite (rest-is u (length u - 3))) ∙ sym (the tie.After-is-white2 (search) .is-white2 .ensures) ∙ c .if7 .taken)
 
 returns-8 : tie.Need-returns-8
 returns-8 c =

@@ -19,13 +19,13 @@ abbrev text : tie.Else2 → Bytes
 text c = the tie.Start (search) .args .u .now
 
 one-not : (c : tie.Else2) → isWhite (take 1 (text c)) ≡ false
-one-not c = ap isWhite (first-byte (text c) (omega arith)) ∙ sym (c .before .is-white-byte .ensures) ∙ c .if2 .left
+one-not c = ap isWhite (first-byte (text c) (omega arith)) ∙ sym (the tie.After-is-white-byte (search) .is-white-byte .ensures) ∙ c .if2 .left
 
 two-not : (c : tie.Else5) → isWhite (take 2 (text (search))) ≡ false
-two-not c = sym (c .before .is-white .ensures) ∙ c .if5 .left
+two-not c = sym (the tie.After-is-white (search) .is-white .ensures) ∙ c .if5 .left
 
 three-not : (c : tie.Else7) → isWhite (take 3 (text (search))) ≡ false
-three-not c = sym (c .before .is-white2 .ensures) ∙ c .if7 .left
+three-not c = sym (the tie.After-is-white2 (search) .is-white2 .ensures) ∙ c .if7 .left
 
 returns : tie.Need-returns
 returns c = no-front (the tie.Start (search) .args .u .now) (front-empty (the tie.Start (search) .args .u .now) (c .if1 .taken))
@@ -33,12 +33,12 @@ returns c = no-front (the tie.Start (search) .args .u .now) (front-empty (the ti
 returns-2 : tie.Need-returns-2
 returns-2 c =
     let u = the tie.Start (search) .args .u .now in
-    a-front u 1 (omega arith) (omega arith) (ap isWhite (first-byte u (omega arith)) ∙ sym (c .before .is-white-byte .ensures) ∙ c .if2 .taken)
+    a-front u 1 (omega arith) (omega arith) (ap isWhite (first-byte u (omega arith)) ∙ sym (the tie.After-is-white-byte (search) .is-white-byte .ensures) ∙ c .if2 .taken)
 
 returns-3 : tie.Need-returns-3
 returns-3 c =
     let u = text (search) in
-    no-front u (front-low u (omega arith) (omega arith) (sym (the tie.After-is-white-byte (search) .is-white-byte .ensures) ∙ c .before .if2 .left))
+    no-front u (front-low u (omega arith) (omega arith) (sym (the tie.After-is-white-byte (search) .is-white-byte .ensures) ∙ the tie.Else2 (search) .if2 .left))
 
 returns-4 : tie.Need-returns-4
 returns-4 c =
@@ -49,7 +49,7 @@ slice-aggregate-is-white : tie.Need-slice-aggregate-is-white
 slice-aggregate-is-white c = sym (length-take-le 2 (text (search)) (omega arith))
 
 returns-5 : tie.Need-returns-5
-returns-5 c = a-front (text (search)) 2 (omega arith) (omega arith) (sym (c .before .is-white .ensures) ∙ c .if5 .taken)
+returns-5 c = a-front (text (search)) 2 (omega arith) (omega arith) (sym (the tie.After-is-white (search) .is-white .ensures) ∙ c .if5 .taken)
 
 returns-6 : tie.Need-returns-6
 returns-6 c =
@@ -60,7 +60,7 @@ slice-aggregate-is-white-2 : tie.Need-slice-aggregate-is-white-2
 slice-aggregate-is-white-2 c = sym (length-take-le 3 (text (search)) (omega arith))
 
 returns-7 : tie.Need-returns-7
-returns-7 c = a-front (text (search)) 3 (omega arith) (omega arith) (sym (c .before .is-white2 .ensures) ∙ c .if7 .taken)
+returns-7 c = a-front (text (search)) 3 (omega arith) (omega arith) (sym (the tie.After-is-white2 (search) .is-white2 .ensures) ∙ c .if7 .taken)
 
 returns-8 : tie.Need-returns-8
 returns-8 c =

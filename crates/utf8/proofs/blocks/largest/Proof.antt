@@ -31,7 +31,7 @@ loop-again c = (
 )
 
 returns : tie.Need-returns Inv-loop μ-loop
-returns c = omega (arith, c .before .loop .inv .2, largest-none (the (tie.Start Inv-loop μ-loop) (search) .args .part .now) (c .before .loop .k) (omega arith))
+returns c = omega (arith, the (tie.At-loop Inv-loop μ-loop) (search) .loop .inv .2, largest-none (the (tie.Start Inv-loop μ-loop) (search) .args .part .now) (the (tie.At-loop Inv-loop μ-loop) (search) .loop .k) (omega arith))
 
 pub largest-spec : {M : Type 1} → statement M
 largest-spec =

@@ -12,7 +12,7 @@ use Rattle.utf8.proofs.blocks.past_block.Tie as tie
 returns : tie.Need-returns
 returns c =
     let a = the tie.Start (search) .args in
-    let l = c .before .largest in
+    let l = the tie.After-largest (search) .largest in
     sym (block-ascii (a .s .now) (a .at) (a .at + 64 - a .at) (l .result) (omega arith) (l .ensures) (omega arith))
 
 returns-2 : tie.Need-returns-2
@@ -25,13 +25,13 @@ returns-3 : tie.Need-returns-3
 returns-3 c =
     let a = the tie.Start (search) .args in
     let l = the tie.After-largest (search) .largest in
-    c .past-sound .ensures ∙ sym (block-sound (a .s .now) (a .at) (a .at + 64 - a .at) (l .result) (omega arith) (l .ensures) (omega arith) (omega arith) (sym (the tie.After-is-settled (search) .is-settled .ensures) ∙ c .before .if3 .taken))
+    c .past-sound .ensures ∙ sym (block-sound (a .s .now) (a .at) (a .at + 64 - a .at) (l .result) (omega arith) (l .ensures) (omega arith) (omega arith) (sym (the tie.After-is-settled (search) .is-settled .ensures) ∙ the tie.Then3 (search) .if3 .taken))
 
 returns-4 : tie.Need-returns-4
 returns-4 c =
     let a = the tie.Start (search) .args in
     let l = the tie.After-largest (search) .largest in
-    sym (block-not (a .s .now) (a .at) (a .at + 64 - a .at) (l .result) (omega arith) (l .ensures) (omega arith) (sym (c .before .is-settled .ensures) ∙ c .if3 .left))
+    sym (block-not (a .s .now) (a .at) (a .at + 64 - a .at) (l .result) (omega arith) (l .ensures) (omega arith) (sym (the tie.After-is-settled (search) .is-settled .ensures) ∙ c .if3 .left))
 
 pub past-block-spec : {M : Type 1} → statement M
 past-block-spec =

@@ -12,7 +12,7 @@ use Rattle.utf8.proofs.blocks.past_sound.Tie as tie
 returns : tie.Need-returns
 returns c =
     let a = the tie.Start (search) .args in
-    let f = c .before .faults in
+    let f = the tie.After-faults (search) .faults in
     sym (sound-not (a .s .now) (a .from) (a .from + 67 - a .from) (f .result) (omega arith) (f .ensures) (omega arith))
 
 returns-2 : tie.Need-returns-2

@@ -22,13 +22,13 @@ abbrev μ-loop : tie.MeasureT-loop
 abbrev start : tie.After-utf8-end Inv-loop μ-loop → tie.Start Inv-loop μ-loop
 start c = search
 
-run : (c : tie.After-utf8-end Inv-loop μ-loop) → Run (start c .args .s .now) (c .before .loop .from) (c .utf8-end .result)
-run c = record { starts = c .before .loop .inv .0; ends = c .utf8-end .ensures }
+run : (c : tie.After-utf8-end Inv-loop μ-loop) → Run (start c .args .s .now) (the (tie.At-loop Inv-loop μ-loop) (search) .loop .from) (c .utf8-end .result)
+run c = record { starts = the (tie.At-loop Inv-loop μ-loop) (search) .loop .inv .0; ends = c .utf8-end .ensures }
 
 -- What is written once the run is copied, which gave out.
 abbrev Copied : tie.After-utf8-end Inv-loop μ-loop → Bytes → Type 0
 Copied c out =
-    Written (replaced (start c .args .s .now)) (start c .args .out .now) out (start c .args .at) (c .before .loop .to + (c .utf8-end .result - c .before .loop .from))
+    Written (replaced (start c .args .s .now)) (start c .args .out .now) out (start c .args .at) (the (tie.At-loop Inv-loop μ-loop) (search) .loop .to + (c .utf8-end .result - the (tie.At-loop Inv-loop μ-loop) (search) .loop .from))
     (replaced (drop (c .utf8-end .result) (start c .args .s .now)))
 
 copied : (c : tie.After-copy-at Inv-loop μ-loop) → Copied (search) (c .copy-at .last .0)
@@ -87,7 +87,7 @@ returns c =
 put-replacement-requires : tie.Need-put-replacement-requires Inv-loop μ-loop
 put-replacement-requires c κs =
     let fits = written-length (copied (search)) (start (search) .pre) in
-    omega (arith, fits .0, fits .1, ill-room (run (search)) (c .before .if1 .left))
+    omega (arith, fits .0, fits .1, ill-room (run (search)) (the (tie.Else1 Inv-loop μ-loop) (search) .if1 .left))
 
 add-to-2 : tie.Need-add-to-2 Inv-loop μ-loop
 add-to-2 c =
@@ -105,7 +105,7 @@ loop-again c = (
   ill-inside (run (found c)) (ill c) .1,
   written-more (copied (wrote c)) (start (found c) .pre) replacement (replaced (drop (found c .utf8-end .result + c .subpart-len .result) (start (found c) .args .s .now)))
       (the (tie.After-put-replacement Inv-loop μ-loop) (search) .put-replacement .last .0)
-      (found c .before .loop .to + (found c .utf8-end .result - found c .before .loop .from) + 3)
+      (the (tie.At-loop Inv-loop μ-loop) (search) .loop .to + (found c .utf8-end .result - the (tie.At-loop Inv-loop μ-loop) (search) .loop .from) + 3)
       (ill-replaced (run (found c)) (ill c))
       (the (tie.After-put-replacement Inv-loop μ-loop) (search) .put-replacement .ensures)
       (omega arith),

@@ -21,17 +21,17 @@ abbrev μ-loop : tie.MeasureT-loop
 loop-holds : tie.Need-loop-holds Inv-loop μ-loop
 loop-holds c = (omega arith, omega arith, omega arith)
 
-run : (c : tie.After-utf8-end Inv-loop μ-loop) → Run (the (tie.Start Inv-loop μ-loop) (search) .args .s .now) (c .before .loop .at) (c .utf8-end .result)
-run c = record { starts = c .before .loop .inv .0; ends = c .utf8-end .ensures }
+run : (c : tie.After-utf8-end Inv-loop μ-loop) → Run (the (tie.Start Inv-loop μ-loop) (search) .args .s .now) (the (tie.At-loop Inv-loop μ-loop) (search) .loop .at) (c .utf8-end .result)
+run c = record { starts = the (tie.At-loop Inv-loop μ-loop) (search) .loop .inv .0; ends = c .utf8-end .ensures }
 
 ill : (c : tie.After-subpart-len Inv-loop μ-loop) → Ill (the (tie.Start Inv-loop μ-loop) (search) .args .s .now) (the (tie.After-utf8-end Inv-loop μ-loop) (search) .utf8-end .result) (c .subpart-len .result)
-ill c = record { more = c .before .if1 .left; subpart = c .subpart-len .ensures }
+ill c = record { more = the (tie.Else1 Inv-loop μ-loop) (search) .if1 .left; subpart = c .subpart-len .ensures }
 
 sub-n : tie.Need-sub-n Inv-loop μ-loop
 sub-n c = omega (arith, run-inside (run c) .0)
 
 add-n : tie.Need-add-n Inv-loop μ-loop
-add-n c = omega (arith, run-inside (run c) .1, c .before .loop .inv .2)
+add-n c = omega (arith, run-inside (run c) .1, the (tie.At-loop Inv-loop μ-loop) (search) .loop .inv .2)
 
 returns : tie.Need-returns Inv-loop μ-loop
 returns c = omega (arith, the (tie.At-loop Inv-loop μ-loop) (search) .loop .inv .1, run-count (run (search)), ap length (run-last (run (search)) (c .if1 .taken)))

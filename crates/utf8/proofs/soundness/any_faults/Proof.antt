@@ -25,16 +25,17 @@ loop-again : tie.Need-loop-again Inv-loop μ-loop
 loop-again c =
     let loop = the (tie.At-loop Inv-loop μ-loop) (search) .loop in (
       omega arith,
-      faults-more (loop .worst) (c .before .fault .result) (c .if1 .worst) (⊎-elim (λ w. inl (omega arith, omega arith)) (λ w. inr (omega arith, omega arith)) (c .if1 .came))
+      faults-more (loop .worst) (the (tie.After-fault Inv-loop μ-loop) (search) .fault .result) (c .if1 .worst) (⊎-elim (λ w. inl (omega arith, omega arith)) (λ w. inr (omega arith, omega arith)) (c .if1 .came))
           (the (tie.Start Inv-loop μ-loop) (search) .args .part .now) (loop .k)
           (loop .inv .1)
-          (c .before .fault .ensures),
+          (the (tie.After-fault Inv-loop μ-loop) (search) .fault .ensures),
     )
 
 returns : tie.Need-returns Inv-loop μ-loop
 returns c =
-    let e : c .before .loop .k ≡ 64 = omega arith in
-    c .before .loop .inv .1 ∙ rw e refl
+    let at-loop : tie.At-loop Inv-loop μ-loop = search in
+    let e : at-loop .loop .k ≡ 64 = omega arith in
+    at-loop .loop .inv .1 ∙ rw e refl
 
 pub any-faults-spec : {M : Type 1} → statement M
 any-faults-spec =

@@ -14,7 +14,7 @@ use Rattle.utf8.proofs.soundness.fault.Tie as tie
 returns : tie.Need-returns
 returns c =
     let a = the tie.Start (search) .args in
-    sym (ap (λ t. bit (not t)) (fault-turn (a .p3) (a .p2) (a .p1) (a .b) (λ e. omega (arith, the tie.After-trails (search) .trails .ensures, c .before .owed .ensures))))
+    sym (ap (λ t. bit (not t)) (fault-turn (a .p3) (a .p2) (a .p1) (a .b) (λ e. omega (arith, the tie.After-trails (search) .trails .ensures, the tie.After-owed (search) .owed .ensures))))
 
 returns-2 : tie.Need-returns-2
 returns-2 c =

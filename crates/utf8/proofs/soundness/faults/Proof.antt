@@ -11,8 +11,9 @@ use Rattle.utf8.proofs.soundness.faults.Tie as tie
 
 returns-5 : tie.Need-returns-5
 returns-5 c =
+    let at-pair-faults : tie.After-pair-faults = search in
     let part = the tie.Start (search) .args .part .now in
-    let f = c .before .pair-faults in
+    let f = at-pair-faults .pair-faults in
     let sound = pairs-sound part 64 (omega arith) (omega arith) (omega arith) (no-fault (allPairs 64 part) (sym (f .ensures) ∙ c .if5 .taken)) in
     rw (sound .0) refl
 

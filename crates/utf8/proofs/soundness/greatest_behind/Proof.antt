@@ -8,7 +8,7 @@ use Rattle.utf8.proofs.soundness.greatest_behind.Statement.{statement}
 use Rattle.utf8.proofs.soundness.greatest_behind.Tie as tie
 
 returns : tie.Need-returns
-returns c = sym (greatest-ED (c .before .args .p1) (omega arith))
+returns c = sym (greatest-ED (the tie.Start (search) .args .p1) (omega arith))
 
 returns-2 : tie.Need-returns-2
 returns-2 c = sym (greatest-F4 (the tie.Start (search) .args .p1) (omega arith))

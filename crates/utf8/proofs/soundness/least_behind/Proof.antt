@@ -8,7 +8,7 @@ use Rattle.utf8.proofs.soundness.least_behind.Statement.{statement}
 use Rattle.utf8.proofs.soundness.least_behind.Tie as tie
 
 returns : tie.Need-returns
-returns c = sym (least-E0 (c .before .args .p1) (omega arith))
+returns c = sym (least-E0 (the tie.Start (search) .args .p1) (omega arith))
 
 returns-2 : tie.Need-returns-2
 returns-2 c = sym (least-F0 (the tie.Start (search) .args .p1) (omega arith))

@@ -9,7 +9,7 @@ use Rattle.utf8.proofs.soundness.owed.Statement.{statement}
 use Rattle.utf8.proofs.soundness.owed.Tie as tie
 
 returns : tie.Need-returns
-returns c = let a = c .before .args in sym (ap bit (owed-first (a .p3) (a .p2) (a .p1) (omega arith)))
+returns c = let a = the tie.Start (search) .args in sym (ap bit (owed-first (a .p3) (a .p2) (a .p1) (omega arith)))
 
 returns-2 : tie.Need-returns-2
 returns-2 c = let a = the tie.Start (search) .args in sym (ap bit (owed-second (a .p3) (a .p2) (a .p1) (omega arith)))

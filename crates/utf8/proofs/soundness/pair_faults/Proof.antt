@@ -25,16 +25,17 @@ loop-again : tie.Need-loop-again Inv-loop μ-loop
 loop-again c =
     let loop = the (tie.At-loop Inv-loop μ-loop) (search) .loop in (
       omega arith,
-      pairs-more (loop .most) (c .before .pair-fault .result) (c .if1 .most) (⊎-elim (λ w. inl (omega arith, omega arith)) (λ w. inr (omega arith, omega arith)) (c .if1 .came))
+      pairs-more (loop .most) (the (tie.After-pair-fault Inv-loop μ-loop) (search) .pair-fault .result) (c .if1 .most) (⊎-elim (λ w. inl (omega arith, omega arith)) (λ w. inr (omega arith, omega arith)) (c .if1 .came))
           (the (tie.Start Inv-loop μ-loop) (search) .args .part .now) (loop .i)
           (loop .inv .1)
-          (c .before .pair-fault .ensures),
+          (the (tie.After-pair-fault Inv-loop μ-loop) (search) .pair-fault .ensures),
     )
 
 returns : tie.Need-returns Inv-loop μ-loop
 returns c =
-    let e : c .before .loop .i ≡ 64 = omega arith in
-    c .before .loop .inv .1 ∙ rw e refl
+    let at-loop : tie.At-loop Inv-loop μ-loop = search in
+    let e : at-loop .loop .i ≡ 64 = omega arith in
+    at-loop .loop .inv .1 ∙ rw e refl
 
 pub pair-faults-spec : {M : Type 1} → statement M
 pair-faults-spec =

@@ -9,7 +9,7 @@ use Rattle.utf8.proofs.soundness.trails.Statement.{statement}
 use Rattle.utf8.proofs.soundness.trails.Tie as tie
 
 returns : tie.Need-returns
-returns c = sym (ap bit (trailing-below (c .before .args .b) (omega arith)))
+returns c = sym (ap bit (trailing-below (the tie.Start (search) .args .b) (omega arith)))
 
 returns-2 : tie.Need-returns-2
 returns-2 c = sym (ap bit (trailing-above (the tie.Start (search) .args .b) (omega arith)))

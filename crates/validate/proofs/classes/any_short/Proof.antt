@@ -29,7 +29,7 @@ returns c =
     sym
     (at-loop .loop .inv .1
     ∙ any-step (inClass (args .class)) (args .s .now) (at-loop .loop .at) false (omega arith)
-    ∙ ap (λ (b : Bool). b || rest) (sym (c .before .in-class .ensures) ∙ c .if1 .taken))
+    ∙ ap (λ (b : Bool). b || rest) (sym (the (tie.After-in-class Inv-loop μ-loop) (search) .in-class .ensures) ∙ c .if1 .taken))
 
 loop-again : tie.Need-loop-again Inv-loop μ-loop
 loop-again c =
@@ -39,7 +39,7 @@ loop-again c =
       omega arith,
       at-loop .loop .inv .1
           ∙ any-step (inClass (args .class)) (args .s .now) (at-loop .loop .at) false (omega arith)
-          ∙ ap (λ (b : Bool). b || rest) (sym (c .before .in-class .ensures) ∙ c .if1 .left),
+          ∙ ap (λ (b : Bool). b || rest) (sym (the (tie.After-in-class Inv-loop μ-loop) (search) .in-class .ensures) ∙ c .if1 .left),
     )
 
 returns-2 : tie.Need-returns-2 Inv-loop μ-loop

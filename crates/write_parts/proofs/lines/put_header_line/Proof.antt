@@ -43,10 +43,10 @@ abbrev value : tie.After-param-count → Bytes
 value c = the tie.After-value-at (search) .value-at .result .now
 
 abbrev params : tie.After-param-count → Bytes
-params c = texts paramText (entriesFrom (c .param-count .result) (c .before .tail-at .result .now))
+params c = texts paramText (entriesFrom (c .param-count .result) (the tie.After-tail-at (search) .tail-at .result .now))
 
 parts : (c : tie.After-param-count) → whole c ≡ name c ++ ((colon ∷ []) ++ (params c ++ ((space ∷ []) ++ (escape (value c) ++ (CRLF ++ [])))))
-parts c = header-parts _ _ _ (the tie.After-name-at (search) .name-at .ensures) (the tie.After-value-at (search) .value-at .ensures) _ _ (c .before .tail-at .ensures) (c .param-count .ensures .0)
+parts c = header-parts _ _ _ (the tie.After-name-at (search) .name-at .ensures) (the tie.After-value-at (search) .value-at .ensures) _ _ (the tie.After-tail-at (search) .tail-at .ensures) (c .param-count .ensures .0)
 
 none : (c : tie.After-param-count) → Written (whole c) (start c .args .out .now) (start c .args .out .now) (start c .args .at) (start c .args .at) (whole c)
 none c = written-none (whole c) (start c .args .out .now) (start c .args .at)

@@ -65,10 +65,10 @@ loop-again c =
     (headed-on (start .args .s .now) (start .args .count) (l .from) (l .i) (l .inv .0) (omega arith), lined-on headerFrom (λ h. ended (headerLine h)) (l .inv .1) (start .pre .1) (omega arith) (put .put-header-line .ensures))
 
 same-length : tie.Need-same-length Inv-loop μ-loop
-same-length c = lined-length headerFrom (λ h. ended (headerLine h)) (c .before .loop .inv .1) (the (tie.Start Inv-loop μ-loop) (search) .pre .1)
+same-length c = lined-length headerFrom (λ h. ended (headerLine h)) (the (tie.At-loop Inv-loop μ-loop) (search) .loop .inv .1) (the (tie.Start Inv-loop μ-loop) (search) .pre .1)
 
 returns : tie.Need-returns Inv-loop μ-loop
-returns c = lined-all headerFrom (λ h. ended (headerLine h)) (c .before .loop .inv .1) (the (tie.Start Inv-loop μ-loop) (search) .pre .1) (omega arith)
+returns c = lined-all headerFrom (λ h. ended (headerLine h)) (the (tie.At-loop Inv-loop μ-loop) (search) .loop .inv .1) (the (tie.Start Inv-loop μ-loop) (search) .pre .1) (omega arith)
 
 pub put-header-lines-spec : {M : Type 1} → statement M
 put-header-lines-spec =

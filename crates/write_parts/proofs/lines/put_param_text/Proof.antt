@@ -26,13 +26,13 @@ abbrev whole : tie.After-value-at → Bytes
 whole c = paramText (entryFrom (storedIn (drop (start c .args .from) (start c .args .s .now))))
 
 abbrev name : tie.After-value-at → Bytes
-name c = c .before .name-at .result .now
+name c = the tie.After-name-at (search) .name-at .result .now
 
 abbrev value : tie.After-value-at → Bytes
 value c = c .value-at .result .now
 
 parts : (c : tie.After-value-at) → whole c ≡ (semicolon ∷ []) ++ (name c ++ ((equals ∷ []) ++ (value c ++ [])))
-parts c = param-parts _ _ _ (c .before .name-at .ensures) (c .value-at .ensures)
+parts c = param-parts _ _ _ (the tie.After-name-at (search) .name-at .ensures) (c .value-at .ensures)
 
 none : (c : tie.After-value-at) → Written (whole c) (start c .args .out .now) (start c .args .out .now) (start c .args .at) (start c .args .at) (whole c)
 none c = written-none (whole c) (start c .args .out .now) (start c .args .at)

@@ -4,7 +4,7 @@ use native.Mathlib.Omega.{arith}
 use lib.ListN.{length}
 use borrow.Author.Tests.{eq-eqb}
 use Rattle.format.proofs.Characters.Replaced.{replaced-same}
-use Rattle.characters.proofs.CharEnds.{utf8-tested}
+use Rattle.characters.proofs.Utf8End.{utf8-tested}
 use Rattle.format.proofs.Typed.{the}
 use Rattle.write_parts.proofs.TextLengths.{replaced-length}
 use Rattle.write_parts.proofs.measure.body_text_len.Statement.{statement}

@@ -23,7 +23,7 @@ params-len-requires c κs =
     (start .pre .0, start .pre .2)
 
 add-result : tie.Need-add-result
-add-result c = omega (arith, c .before .name-len .ensures .1, c .params-len .ensures .1)
+add-result c = omega (arith, the tie.After-name-len (search) .name-len .ensures .1, c .params-len .ensures .1)
 
 value-at-requires : tie.Need-value-at-requires
 value-at-requires c κs = the tie.Start (search) .pre .0
@@ -35,7 +35,7 @@ short c =
     omega (arith, ap length (c .value-at .ensures), value-short (drop (start .args .at) (start .args .s .now)) (start .pre .0) (start .pre .1))
 
 escaped-short : (c : tie.After-escaped-len) → c .escaped-len .result ≤ 6144
-escaped-short c = omega (arith, c .escaped-len .ensures, escape-length (c .before .value-at .result .now), short (search))
+escaped-short c = omega (arith, c .escaped-len .ensures, escape-length (the tie.After-value-at (search) .value-at .result .now), short (search))
 
 escaped-len-requires : tie.Need-escaped-len-requires
 escaped-len-requires c κs = omega (arith, short c)
@@ -52,7 +52,7 @@ returns c =
     let name = the tie.After-name-len (search) .name-len .ensures in
     let params = the tie.After-params-len (search) .params-len .ensures in (
       header-at (drop (start .args .at) (start .args .s .now)) (start .pre .0) _ _ _ (name .0) (params .0)
-          (c .escaped-len .ensures ∙ ap (λ (v : Bytes). length (escape v)) (c .before .value-at .ensures)),
+          (c .escaped-len .ensures ∙ ap (λ (v : Bytes). length (escape v)) (the tie.After-value-at (search) .value-at .ensures)),
       omega (arith, name .1, params .1, escaped-short c),
     )
 

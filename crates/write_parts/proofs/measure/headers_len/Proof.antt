@@ -35,7 +35,7 @@ loop-holds c =
 
 header-len-requires : tie.Need-header-len-requires Inv-loop μ-loop
 header-len-requires c κs =
-    let l = c .before .loop in
+    let l = the (tie.At-loop Inv-loop μ-loop) (search) .loop in
     let args = the (tie.Start Inv-loop μ-loop) (search) .args in
     let s = args .s .now in
     let w = l .inv .0 in (
@@ -70,10 +70,11 @@ loop-less c = omega arith
 loop-again : tie.Need-loop-again Inv-loop μ-loop
 unfolding texts
 loop-again c =
+    let at-header-len : tie.After-header-len Inv-loop μ-loop = search in
     let l = the (tie.At-loop Inv-loop μ-loop) (search) .loop in
     let args = the (tie.Start Inv-loop μ-loop) (search) .args in
     let s = args .s .now in
-    let one = c .before .header-len .ensures in
+    let one = at-header-len .header-len .ensures in
     let line = ended (headerLine (headerFrom (storedIn (drop (l .at) s)))) in
     let rest = lines (left s (args .count) (l .at + sizeIn (drop (l .at) s)) (l .i + 1)) in
     let next : length (lines (left s (args .count) (l .at) (l .i))) ≡ length line + length rest =
@@ -87,7 +88,7 @@ loop-again c =
 returns : tie.Need-returns Inv-loop μ-loop
 unfolding texts
 returns c =
-    let l = c .before .loop in
+    let l = the (tie.At-loop Inv-loop μ-loop) (search) .loop in
     let args = the (tie.Start Inv-loop μ-loop) (search) .args in
     let none = ap (λ (es : List Stored). length (lines es)) (left-end (args .s .now) (args .count) (l .at) (l .i) (omega arith)) in
     (omega (arith, l .inv .1, none), omega (arith, l .inv .2, l .inv .0 .passing .within, the (tie.Start Inv-loop μ-loop) (search) .pre .1))

@@ -3,6 +3,7 @@ use native.Mathlib.Omega.{arith}
 use borrow.Author.Needs.{needs}
 use lib.ListN.{drop}
 use Rattle.store_entries.proofs.EntryShape.{within-numbers}
+use Rattle.format.proofs.Typed.{the}
 use Rattle.write_parts.proofs.TextLengths.{params-at}
 use Rattle.write_parts.proofs.measure.params_len.Statement.{statement}
 use Rattle.write_parts.proofs.measure.params_len.Tie as tie
@@ -20,13 +21,13 @@ param-count-requires c κs =
 sub-result : tie.Need-sub-result
 sub-result c =
     let start : tie.Start = search in
-    omega (arith, params-at (drop (start .args .at) (start .args .s .now)) (start .pre .0) (start .pre .1), c .before .tail-len .ensures .0, c .param-count .ensures .0)
+    omega (arith, params-at (drop (start .args .at) (start .args .s .now)) (start .pre .0) (start .pre .1), the tie.After-tail-len (search) .tail-len .ensures .0, c .param-count .ensures .0)
 
 returns : tie.Need-returns
 returns c =
     let start : tie.Start = search in
     let e = params-at (drop (start .args .at) (start .args .s .now)) (start .pre .0) (start .pre .1) in
-    let n = c .before .tail-len .ensures in
+    let n = the tie.After-tail-len (search) .tail-len .ensures in
     let k = c .param-count .ensures in
     (omega (arith, e, n .0, k .0), omega (arith, n .1))
 

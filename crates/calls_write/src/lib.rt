@@ -16,8 +16,8 @@ ghost use Rattle.format.specs.Lending.{bothLent, lengths, zeroed};
 ghost use Rattle.format.specs.declared.CpimMessage.{CpimMessage};
 ghost use Rattle.format.specs.declared.Numbers.{Numbers};
 ghost use Rattle.calls_script.specs.Script.{state, callsIn};
-ghost use Rattle.calls_roundtrip.specs.Began.{ReadThenRun, MadeThenRun};
-ghost use Rattle.calls_roundtrip.specs.Sent.{Sent};
+ghost use Rattle.calls_write.specs.Began.{ReadThenRun, MadeThenRun};
+ghost use Rattle.calls_write.specs.Sent.{Sent};
 
 // A refusal's numbers; nothing is written.
 fn length_refused(a: Answer) -> LengthAnswer

@@ -14,7 +14,8 @@ use Rattle.format.specs.Layout.{Lent, Holds}
 use Rattle.format.specs.Lending.{headLent, lengths, leaves}
 use Rattle.format.specs.declared.Numbers.{Numbers}
 use Rattle.format.specs.declared.CpimMessage.{CpimMessage}
-use Rattle.format.proofs.Steps.{accepted-same, bind-accepted, if-accepted}
+use Rattle.format.proofs.Steps.{accepted-same, if-accepted}
+use Rattle.format.proofs.Rulesets.{checks}
 use Rattle.format.proofs.Messages.Parts.{header-parts, message-parts, message-whole}
 use Rattle.format.proofs.Messages.Valid.{append-within}
 use Rattle.format.proofs.Texts.ReadValid.{readHeader-valid}
@@ -40,6 +41,6 @@ pub header-line-valid : (st : Stores) (l : Bytes) (m k : Message) → isUtf8 l �
 unfolding readHeaderLine readLine
 header-line-valid st l m k u v h =
     if-accepted (isEmpty l) _ _ k (λ e g. rw (accepted-same m k g) at v)
-    (λ e g. let a = bind-accepted _ _ _ g in
+    (λ e g. let a = simp checks at g in
     message-whole k (append-within st m k (message-parts m v) (a .0) (header-parts (a .0) (readHeader-valid l (a .0) u (a .1))) (a .2)))
     h

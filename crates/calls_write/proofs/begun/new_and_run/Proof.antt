@@ -1,14 +1,14 @@
--- `calls_roundtrip::begun::new_and_run` meets its contract: what it calls ensures the steps of the list. Assumes nothing.
+-- `calls_write::begun::new_and_run` meets its contract: what it calls ensures the steps of the list. Assumes nothing.
 use mathlib.Core.Path.{refl, _∙_}
 use borrow.Author.Needs.{needs}
 use Rattle.format.specs.Layout.{emptyMessage}
 use Rattle.format.specs.Lending.{bothLent, makes}
 use Rattle.calls_script.specs.Script.{state}
 use Rattle.format.proofs.Typed.{the}
-use Rattle.calls_roundtrip.proofs.Trace.{list-held}
-use Rattle.calls_roundtrip.proofs.BegunExits.{not-begun, begun-held, made-zero}
-use Rattle.calls_roundtrip.proofs.begun.new_and_run.Statement.{statement}
-use Rattle.calls_roundtrip.proofs.begun.new_and_run.Tie as tie
+use Rattle.calls_write.proofs.Trace.{list-held}
+use Rattle.calls_write.proofs.BegunExits.{not-begun, begun-held, made-zero}
+use Rattle.calls_write.proofs.begun.new_and_run.Statement.{statement}
+use Rattle.calls_write.proofs.begun.new_and_run.Tie as tie
 
 returns : tie.Need-returns
 unfolding makes

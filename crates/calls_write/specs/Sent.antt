@@ -15,7 +15,7 @@ use Rattle.format.specs.Lending.{bothLent}
 use Rattle.format.specs.Demand3.{after}
 use Rattle.format.specs.declared.CpimMessage.{CpimMessage}
 use Rattle.read_split.specs.declared.LengthAnswer.{LengthAnswer}
-use Rattle.calls_roundtrip.specs.Began.{Began}
+use Rattle.calls_write.specs.Began.{Began}
 
 -- the text of the message that the beginning and the calls define, for an output of so many bytes; what refused the beginning
 unfoldable pub sentText : Out Message → Stores → List Call → ℕ → Out Bytes

@@ -22,7 +22,7 @@ use Rattle.store_entry_check.specs.EntriesHold.{fits, entriesHold, tailH
 use Rattle.store_entry_check.specs.FromBytes.{headerFrom, headersFrom}
 use Rattle.store_entry_check.specs.declared.kinds.Kind.the-variants as kind
 use Rattle.store_entry_check.proofs.NameOrder.{linked, linked-ordered, ordered-linked, behind-none, linked-map, ordered-ascending}
-use Rattle.store_entry_check.proofs.EntriesCheck.{storedName, holds-walked, walked-holds, map-back, fits-parts, parts-fit, params-listed, params-hold}
+use Rattle.store_entry_check.proofs.EntriesListed.{storedName, holds-walked, walked-holds, map-back, fits-parts, parts-fit, params-listed, params-hold}
 
 -- what one test gives of every element, another may take up of what is made of it
 all-made : {A B : Type 0} (p : A → Bool) (q : B → Bool) (f : A → B) → ((x : A) → p x ≡ true → q (f x) ≡ true)

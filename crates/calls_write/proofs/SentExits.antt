@@ -17,8 +17,8 @@ use Rattle.format.specs.declared.CpimMessage.{CpimMessage}
 use Rattle.format.specs.declared.Numbers.{Numbers}
 use Rattle.format.proofs.Steps.{refused-number}
 use Rattle.read_split.specs.declared.LengthAnswer.{LengthAnswer}
-use Rattle.calls_roundtrip.specs.Began.{Began}
-use Rattle.calls_roundtrip.specs.Sent.{sentText, Sent}
+use Rattle.calls_write.specs.Began.{Began}
+use Rattle.calls_write.specs.Sent.{sentText, Sent}
 
 module _ (o : Out Message) (stores : Stores) (calls : List Call) (u : Lent) (k : CpimMessage) (head body out written : Bytes) (n : Numbers) (r : LengthAnswer) (began : Began o stores calls u (bothLent k head body) n) where
   -- what was begun, by the numbers of its outcome

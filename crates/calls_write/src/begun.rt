@@ -9,7 +9,7 @@ ghost use Rattle.format.specs.Reading.{read};
 ghost use Rattle.format.specs.Layout.{emptyMessage};
 ghost use Rattle.format.specs.Lending.{bothLent, lengths, numbersOf, zeroed};
 ghost use Rattle.calls_script.specs.Script.{state, callsIn};
-ghost use Rattle.calls_roundtrip.specs.Began.{Began, ReadThenRun, MadeThenRun};
+ghost use Rattle.calls_write.specs.Began.{Began, ReadThenRun, MadeThenRun};
 
 // A text read, then the calls; refused, no call is made.
 pub fn read_and_run(text: &[u8], script: &[u8], head: &mut [u8], body: &mut [u8]) -> Answer

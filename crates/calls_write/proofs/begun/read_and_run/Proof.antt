@@ -1,12 +1,12 @@
--- `calls_roundtrip::begun::read_and_run` meets its contract: what it calls ensures the steps of the list. Assumes nothing.
+-- `calls_write::begun::read_and_run` meets its contract: what it calls ensures the steps of the list. Assumes nothing.
 use mathlib.Core.Path.{refl}
 use borrow.Author.Needs.{needs}
 use Rattle.calls_script.specs.Script.{state}
 use Rattle.format.proofs.Typed.{the}
-use Rattle.calls_roundtrip.proofs.Trace.{list-held-reading}
-use Rattle.calls_roundtrip.proofs.BegunExits.{not-begun, begun-held, read-zero, by-refusal}
-use Rattle.calls_roundtrip.proofs.begun.read_and_run.Statement.{statement}
-use Rattle.calls_roundtrip.proofs.begun.read_and_run.Tie as tie
+use Rattle.calls_write.proofs.Trace.{list-held-reading}
+use Rattle.calls_write.proofs.BegunExits.{not-begun, begun-held, read-zero, by-refusal}
+use Rattle.calls_write.proofs.begun.read_and_run.Statement.{statement}
+use Rattle.calls_write.proofs.begun.read_and_run.Tie as tie
 
 returns : tie.Need-returns
 returns c = (

@@ -11,7 +11,7 @@ use Rattle.format.specs.Lending.{ReadLeaves, zeroed, zeroedLent, lengths, Made,
 use Rattle.format.specs.Demand3.{after}
 use Rattle.format.specs.declared.Numbers.{Numbers}
 use Rattle.format.proofs.Steps.{refused-number}
-use Rattle.calls_roundtrip.specs.Began.{Began}
+use Rattle.calls_write.specs.Began.{Began}
 
 -- number 0 is an accepted outcome's, and no other's
 module _ (o : Out Message) (n : Numbers) (e : n ≡ numbers o) where
