@@ -12,7 +12,7 @@ use lib.Seq.{drop-cons, drop-drop}
 use Rattle.format.specs.Bytes.{Bytes}
 use Rattle.format.proofs.Lists.{below, clash}
 use Rattle.format.proofs.Rulesets.{tests}
-use Rattle.calls_script.specs.Script.{whole, argumentSize, behind, bothWhole, bothSize, headerWhole, headerSize, Form, one, two, header, unknown, formOf, complete, sizeOf, called, callsFrom, callsIn, endOf}
+use Rattle.calls_script.specs.Script.{whole, argumentSize, bothWhole, bothSize, headerWhole, headerSize, Form, one, two, header, unknown, formOf, complete, sizeOf, called, callsFrom, callsIn, endOf}
 use Rattle.calls_script.proofs.ArgumentPlaces.{size-within, some-end, none-end}
 use Rattle.calls_script.proofs.ArgumentEnds.{nothing-whole}
 
