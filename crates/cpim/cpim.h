@@ -6,7 +6,7 @@
  * A head store takes 256 bytes, and 16 and its name and value for each header, parameter and content header (at most 250,016 bytes); a header alone
  * takes 16 and its value, and 16 and its name and value for each parameter. The body stands at the start of its store.
  *
- * number 0: accepted. Any other is a refusal, and nothing is changed (but see cpim_parse):
+ * number 0: accepted. Any other is a refusal, and nothing is changed (but see cpim_parse and cpim_parse_head):
  *    1 text too long *              2 fewer than 4 sections        3 no message/cpim              4 header line lacks a colon
  *    5 bad escape                   6 name empty                   7 name too long *              8 ASCII control in name
  *    9 one of : ; = \ " in name    10 value too long *            11 control in content value    12 parameter name empty
@@ -99,10 +99,25 @@ typedef struct {
     size_t length;
 } cpim_body_place_t;
 
+/* What a reading that leaves the body where it stands answers: in_text says whether the body is a part of the text, start where it begins there. */
+typedef struct {
+    uint64_t number;
+    uint64_t carried;
+    cpim_message_t message;
+    bool in_text;
+    size_t start;
+} cpim_head_answer_t;
+
 /* Reads a text. Refused: the empty record, and zeros over both stores. 1, 24, 2, 3, 25; a header line 4, 6 to 9, 12 to 16, 21, 5, 10, 20, 25; a content
  * line 17 to 19, or 6 to 11, 22, 25; then 23, 26. */
 cpim_answer_t cpim_parse(const uint8_t *text, size_t text_len, uint8_t *head, size_t head_len, uint8_t *body,
                          size_t body_len);
+
+/* Reads a text and leaves its body where it stands: record and head store are those of cpim_parse, the refusals too, but 26 never comes. Under CRLFCRLF
+ * the body is the text from start on, message.bodylen bytes: in_text is true, and no byte of it is copied. Under LFLF in_text is false, start 0, and
+ * message.bodylen is the length of the body joined, which cpim_read_body writes to a buffer. The body is then lent to other calls as any body store.
+ * Refused: the empty record, false, 0, and zeros over the head store. */
+cpim_head_answer_t cpim_parse_head(const uint8_t *text, size_t text_len, uint8_t *head, size_t head_len);
 
 /* The length of a text's body. Under CRLFCRLF the body is the end of the text and the buffer is not used; under LFLF it is written to the buffer's
  * start. 1, 24, 2, 23, 26 (under LFLF only). */

@@ -1,7 +1,7 @@
 // What others link: reading, writing, the calls on a message and on a header alone, what comes back, and (lookups.rt) the lookups, as C
 // functions on byte slices and numbers, each with the contract of the function that it passes on. A slice crosses as its place and its
-// length, a record as its numbers in the order in which crates/format, text_parts, places (spots.rt) and whole declare it. What is lent
-// to be written must overlap nothing else that is lent.
+// length, a record as its numbers in the order in which crates/format, read_split, read, lookup_places (spots.rt) and roundtrip declare it.
+// What is lent to be written must overlap nothing else that is lent.
 
 mod lookups;
 
@@ -9,6 +9,7 @@ use format::Answer;
 use format::CpimHeader;
 use format::CpimMessage;
 use format::HeaderAnswer;
+use read::HeadAnswer;
 use read_split::LengthAnswer;
 use roundtrip::Loss;
 ghost use mathlib.Core.Path.{_≡_};
@@ -24,6 +25,7 @@ ghost use Rattle.format.specs.Lending.{headLent, bothLent, lengths, numbersOf, 
 ghost use Rattle.format.specs.Runs.{Run};
 ghost use Rattle.format.specs.Demand3.{after};
 ghost use Rattle.calls_script.specs.Script.{state, callsIn};
+ghost use Rattle.read.specs.Heads.{HeadParsed};
 ghost use Rattle.roundtrip.specs.Loss.{lossHeld, wholeHeld, ReadsBack};
 
 #[no_mangle]
@@ -31,6 +33,13 @@ pub extern "C" fn cpim_parse(text: &[u8], head: &mut [u8], body: &mut [u8]) -> A
     ensures { λ r. ⌜ Parsed (now (text .entry)) (bothLent emptyMessage (now (head .entry)) (now (body .entry))) (bothLent (r .message) (now (head .exit)) (now (body .exit))) (numbersOf r) ⌝ }
 {
     read::parse_cpim(text, head, body)
+}
+
+#[no_mangle]
+pub extern "C" fn cpim_parse_head(text: &[u8], head: &mut [u8]) -> HeadAnswer
+    ensures { λ r. ⌜ HeadParsed (now (text .entry)) (headLent emptyMessage (now (head .entry))) (headLent (r .message) (now (head .exit))) r ⌝ }
+{
+    read::parse_head(text, head)
 }
 
 #[no_mangle]

@@ -2,3 +2,5 @@ pub mod LinesLoop
 pub mod Outcomes
 pub mod HeaderSectionLine
 pub mod ReadStores
+pub mod HeadFirst
+pub mod Endings

@@ -1,2 +1,3 @@
 pub mod SectionLines
+pub mod Heads
 pub mod Outcome

@@ -1,5 +1,6 @@
-// Document 01, "Reading": `parse_cpim`. A text is judged (`read_split`), its header lines and content lines are read into the head store
-// (`section_lines`), and its body is laid into the body store. A refused reading leaves zeros in both stores.
+// Document 01, "Reading": `parse_cpim`, and `parse_head`, which leaves the body where it stands. A text is judged (`read_split`), its header
+// lines and content lines are read into the head store (`section_lines`), its body is measured, and by `parse_cpim` laid into the body
+// store. A refused reading leaves zeros in what it is lent.
 
 mod section_lines;
 
@@ -17,18 +18,33 @@ use read_split::body_len;
 use read_split::judge;
 use sections::bodies::join_into;
 use store_check::MAX_BODY_SIZE;
+ghost use mathlib.Core.Path.{_≡_};
+ghost use mathlib.Core.Option.{some};
 ghost use Prim.Native.Nat.{_≤_};
 ghost use lib.ListN.{length, drop};
-ghost use Rattle.format.specs.Bytes.{Bytes};
+ghost use Rattle.format.specs.Bytes.{Bytes, over};
 ghost use Rattle.format.specs.Limits.{maxText};
+ghost use Rattle.format.specs.Refusals.{accepted};
 ghost use Rattle.format.specs.Message.{Message};
 ghost use Rattle.format.specs.Calls.{setBody};
-ghost use Rattle.format.specs.Reading.{blank, read};
+ghost use Rattle.format.specs.Reading.{blank};
 ghost use Rattle.format.specs.Layout.{Holds, emptyMessage};
-ghost use Rattle.format.specs.Lending.{headLent, bothLent, lengths, numbersOf, Parsed};
+ghost use Rattle.format.specs.Lending.{headLent, bothLent, numbersOf, zeroed, Parsed};
 ghost use Rattle.sections.specs.declared.Places.the-variants.{Four};
 ghost use Rattle.read_split.specs.TextJudged.{Stands, bodyBehind};
-ghost use Rattle.read.specs.Outcome.{ReadBy};
+ghost use Rattle.read.specs.Heads.{anyBody, readHead, headNumbers, HeadParsed};
+ghost use Rattle.read.specs.Outcome.{ReadBy, BodyStands};
+
+// What a reading that leaves the body where it stands answers: the two numbers, the record, whether the body stands in the text, and
+// where it begins there.
+#[repr(C)]
+pub struct HeadAnswer {
+    pub number: u64,
+    pub carried: u64,
+    pub message: CpimMessage,
+    pub in_text: bool,
+    pub start: usize,
+}
 
 // What reading starts from: the type text/plain, no entry, an empty body.
 fn start(head: &mut [u8]) -> CpimMessage
@@ -46,19 +62,16 @@ fn start(head: &mut [u8]) -> CpimMessage
     }
 }
 
-// The body over the store's first bytes: 23, then 26. Each byte is copied once.
-fn store_body(text: &[u8], crlf: bool, rest: usize, m: CpimMessage, store: &mut [u8]) -> Answer
+// 23; else the record has the body's length.
+fn measure_body(text: &[u8], crlf: bool, rest: usize, m: CpimMessage) -> Answer
     requires { ⌜ (rest ≤ length (now text)) × (length (now text) ≤ maxText) ⌝ }
-    ensures { λ r. ⌜ ((head : Bytes) (k : Message) → Holds (headLent m head) k → ReadBy (bothLent m head (now (store .entry))) (bothLent (r .message) head (now (store .exit))) (numbersOf r) (setBody (bodyBehind crlf (drop rest (now (text .entry)))) (lengths (bothLent m head (now (store .entry)))) k)) ⌝ }
+    ensures { λ r. ⌜ ((head : Bytes) (k : Message) → Holds (headLent m head) k → ReadBy (headLent m head) (headLent (r .message) head) (numbersOf r) (setBody (bodyBehind crlf (drop rest (now (text .entry)))) (anyBody (length head)) k)) ⌝ }
 {
     let n = body_len(text, crlf, rest);
     if MAX_BODY_SIZE < n {
         return no_message(23, n as u64);
     }
-    if store.len() < n {
-        return no_message(26, n as u64);
-    }
-    let r = Answer {
+    Answer {
         number: 0,
         carried: 0,
         message: CpimMessage {
@@ -69,16 +82,10 @@ fn store_body(text: &[u8], crlf: bool, rest: usize, m: CpimMessage, store: &mut 
             contentlen: m.contentlen,
             bodylen: n,
         },
-    };
-    if crlf {
-        copy_at(store, 0, &text[rest..]);
-        return r;
     }
-    join_into(store, 0, &text[rest..]);
-    r
 }
 
-// 3, 25 carrying 256, headers, content headers, body.
+// 3, 25 carrying 256, headers, content headers, 23.
 fn read_sections(
     text: &[u8],
     crlf: bool,
@@ -89,10 +96,9 @@ fn read_sections(
     end3: usize,
     rest: usize,
     head: &mut [u8],
-    body: &mut [u8],
 ) -> Answer
     requires { ⌜ Stands (now text) crlf (Four end1 start2 end2 start3 end3 rest) ⌝ }
-    ensures { λ r. ⌜ ReadBy (bothLent emptyMessage (now (head .entry)) (now (body .entry))) (bothLent (r .message) (now (head .exit)) (now (body .exit))) (numbersOf r) (read (now (text .entry)) (lengths (bothLent emptyMessage (now (head .entry)) (now (body .entry))))) ⌝ }
+    ensures { λ r. ⌜ ReadBy (headLent emptyMessage (now (head .entry))) (headLent (r .message) (now (head .exit))) (numbersOf r) (readHead (now (text .entry)) (length (now (head .entry)))) ⌝ }
 {
     if !says(&text[..end1], b"message/cpim") {
         return no_message(3, 0);
@@ -110,16 +116,31 @@ fn read_sections(
     if k.number != 0 {
         return k;
     }
-    store_body(text, crlf, rest, k.message, body)
+    measure_body(text, crlf, rest, k.message)
 }
 
-// 1, 24, 2 before all others.
-fn read_text(text: &[u8], head: &mut [u8], body: &mut [u8]) -> Answer
-    ensures { λ r. ⌜ ReadBy (bothLent emptyMessage (now (head .entry)) (now (body .entry))) (bothLent (r .message) (now (head .exit)) (now (body .exit))) (numbersOf r) (read (now (text .entry)) (lengths (bothLent emptyMessage (now (head .entry)) (now (body .entry))))) ⌝ }
+// An answer with where the body stands.
+fn placed(a: Answer, in_text: bool, start: usize) -> HeadAnswer
+    ensures { λ r. ⌜ r ≡ record { number = a .number; carried = a .carried; message = a .message; «in_text» = «in_text»; start = start } ⌝ }
+{
+    let m = a.message;
+    HeadAnswer {
+        number: a.number,
+        carried: a.carried,
+        message: m,
+        in_text: in_text,
+        start: start,
+    }
+}
+
+// 1, 24, 2 before all others. Accepted, the body stands behind the place `start`, as it is or in sections to be joined.
+fn read_text(text: &[u8], head: &mut [u8]) -> HeadAnswer
+    ensures read { λ r. ⌜ ReadBy (headLent emptyMessage (now (head .entry))) (headLent (r .message) (now (head .exit))) (headNumbers r) (readHead (now (text .entry)) (length (now (head .entry)))) ⌝ }
+    ensures body { λ r. ⌜ ((m : Message) → readHead (now (text .entry)) (length (now (head .entry))) ≡ accepted m → BodyStands (now (text .entry)) (r .«in_text») (r .start) (m .body)) ⌝ }
 {
     let judgement = judge(text);
     match judgement {
-        Judgement::Refused { number, carried } => no_message(number, carried),
+        Judgement::Refused { number, carried } => placed(no_message(number, carried), false, 0),
         Judgement::Parted {
             crlf,
             end1,
@@ -128,30 +149,74 @@ fn read_text(text: &[u8], head: &mut [u8], body: &mut [u8]) -> Answer
             start3,
             end3,
             rest,
-        } => read_sections(
-            text,
-            crlf,
-            end1,
-            start2,
-            end2,
-            start3,
-            end3,
-            rest,
-            head,
-            body,
-        ),
+        } => {
+            let r = read_sections(text, crlf, end1, start2, end2, start3, end3, rest, head);
+            placed(r, crlf, rest)
+        }
     }
+}
+
+// The body over the store's first bytes. Each byte is copied once.
+fn store_body(text: &[u8], crlf: bool, rest: usize, store: &mut [u8])
+    requires { ⌜ (rest ≤ length (now text)) × (length (bodyBehind crlf (drop rest (now text))) ≤ length (now store)) ⌝ }
+    ensures { λ _. ⌜ now (store .exit) ≡ over (bodyBehind crlf (drop rest (now (text .entry)))) (now (store .entry)) ⌝ }
+{
+    if crlf {
+        copy_at(store, 0, &text[rest..]);
+        return;
+    }
+    join_into(store, 0, &text[rest..]);
+}
+
+// A text read into a lent head store, its body left in the text, or, under LFLF, only measured; 26 never comes. Refused, the record is
+// empty and the head store is zeros.
+pub fn parse_head(text: &[u8], head: &mut [u8]) -> HeadAnswer
+    ensures { λ r. ⌜ HeadParsed (now (text .entry)) (headLent emptyMessage (now (head .entry))) (headLent (r .message) (now (head .exit))) r ⌝ }
+{
+    let r = read_text(text, head);
+    if r.number != 0 {
+        zero_fill(head);
+        return placed(no_message(r.number, r.carried), false, 0);
+    }
+    if r.in_text {
+        return r;
+    }
+    let m = r.message;
+    HeadAnswer {
+        number: 0,
+        carried: 0,
+        message: m,
+        in_text: false,
+        start: 0,
+    }
+}
+
+// A refusal: the empty record, and zeros in both stores.
+fn refuse(number: u64, carried: u64, head: &mut [u8], body: &mut [u8]) -> Answer
+    ensures answered { λ r. ⌜ numbersOf r ≡ record { number = number; carried = carried } ⌝ }
+    ensures left { λ r. ⌜ bothLent (r .message) (now (head .exit)) (now (body .exit)) ≡ record { message = emptyMessage; head = zeroed (now (head .entry)); body = some (zeroed (now (body .entry))) } ⌝ }
+{
+    zero_fill(head);
+    zero_fill(body);
+    no_message(number, carried)
 }
 
 // A text read into lent stores; refused, the record is empty and both stores are zeros.
 pub fn parse_cpim(text: &[u8], head: &mut [u8], body: &mut [u8]) -> Answer
     ensures { λ r. ⌜ Parsed (now (text .entry)) (bothLent emptyMessage (now (head .entry)) (now (body .entry))) (bothLent (r .message) (now (head .exit)) (now (body .exit))) (numbersOf r) ⌝ }
 {
-    let r = read_text(text, head, body);
+    let r = read_text(text, head);
     if r.number != 0 {
-        zero_fill(head);
-        zero_fill(body);
-        return no_message(r.number, r.carried);
+        return refuse(r.number, r.carried, head, body);
     }
-    r
+    let m = r.message;
+    if body.len() < m.bodylen {
+        return refuse(26, m.bodylen as u64, head, body);
+    }
+    store_body(text, r.in_text, r.start, body);
+    Answer {
+        number: 0,
+        carried: 0,
+        message: m,
+    }
 }

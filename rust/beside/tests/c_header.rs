@@ -27,6 +27,7 @@ fn c_type(t: &str) -> &str {
         "Numbers" => "cpim_numbers_t",
         "Answer" => "cpim_answer_t",
         "HeaderAnswer" => "cpim_header_answer_t",
+        "HeadAnswer" => "cpim_head_answer_t",
         "LengthAnswer" => "cpim_length_answer_t",
         "Loss" => "cpim_loss_t",
         "Part" => "cpim_part_t",
@@ -80,7 +81,14 @@ fn functions() {
 #[test]
 fn records() {
     let header = plain(&without_comments(&file("cpim/cpim.h")));
-    let sources = ["format/src/lib.rt", "read_split/src/lib.rt", "roundtrip/src/lib.rt", "lookup_places/src/spots.rt"].map(file);
+    let sources = [
+        "format/src/lib.rt",
+        "read/src/lib.rt",
+        "read_split/src/lib.rt",
+        "roundtrip/src/lib.rt",
+        "lookup_places/src/spots.rt",
+    ]
+    .map(file);
     let mut records = 0;
     for source in &sources {
         for record in source.split("#[repr(C)]\npub struct ").skip(1) {

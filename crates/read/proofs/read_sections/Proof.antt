@@ -12,14 +12,16 @@ use Rattle.format.specs.Characters.{isUtf8}
 use Rattle.format.specs.Refusals.{accepted}
 use Rattle.format.specs.Message.{Message}
 use Rattle.format.specs.Reading.{each, lines, readHeader, readHeaderLine, readContentLine, blank, saysCpim, Parts, textParts}
+use Rattle.format.specs.Calls.{Stores}
 use Rattle.format.specs.Layout.{Lent, emptyMessage}
-use Rattle.format.specs.Lending.{headLent, bothLent, lengths, numbersOf}
+use Rattle.format.specs.Lending.{headLent, lengths, numbersOf}
 use Rattle.store_check.proofs.MessageHeld.{holds-held}
 use Rattle.sections.specs.Cuts.{separatorFor}
 use Rattle.sections.proofs.Sections.{Three}
 use Rattle.read_split.specs.TextJudged.{bodyBehind}
 use Rattle.read_split.proofs.TextJudged.{three, parts-stand, sections-stand}
 use Rattle.format.proofs.Typed.{the}
+use Rattle.read.specs.Heads.{anyBody}
 use Rattle.read.specs.SectionLines.{LinesRead}
 use Rattle.read.proofs.LinesLoop.{zero-accepted}
 use Rattle.read.proofs.Outcomes.{headers-same, contents-same, no-cpim, no-room, headers-stop, contents-stop, body-decides}
@@ -32,7 +34,10 @@ abbrev text-at : tie.Start → Bytes
 text-at c = c .args .text .now
 
 abbrev lent-at : tie.Start → Lent
-lent-at c = bothLent emptyMessage (c .args .head .now) (c .args .body .now)
+lent-at c = headLent emptyMessage (c .args .head .now)
+
+abbrev stores-at : tie.Start → Stores
+stores-at c = anyBody (length (c .args .head .now))
 
 abbrev parts-at : tie.Start → Parts
 parts-at c =
@@ -62,10 +67,10 @@ kept-start : (c : tie.After-start) → length (c .start .last .0) ≡ length (th
 kept-start c = c .start .kept .0
 
 headers-read : (c : tie.After-read-headers)
-    → LinesRead (headLent (c .read-headers .result .message) (c .read-headers .last .1 .1 .0)) (numbersOf (c .read-headers .result)) (each (readHeaderLine readHeader (lengths (lent-at (search)))) (lines (parts-at (search) .headers)) blank)
-unfolding lengths
+    → LinesRead (headLent (c .read-headers .result .message) (c .read-headers .last .1 .1 .0)) (numbersOf (c .read-headers .result)) (each (readHeaderLine readHeader (stores-at (search))) (lines (parts-at (search) .headers)) blank)
+unfolding lengths anyBody
 headers-read c =
-    subst (LinesRead _ _) (headers-same _ (lengths (lent-at (search))) (kept-start (search)) _ blank) (c .read-headers .ensures blank (the tie.After-start (search) .start .ensures))
+    subst (LinesRead _ _) (headers-same _ (stores-at (search)) (kept-start (search)) _ blank) (c .read-headers .ensures blank (the tie.After-start (search) .start .ensures))
 
 kept-headers : (c : tie.After-read-headers) → length (c .read-headers .last .1 .1 .0) ≡ length (the tie.Start (search) .args .head .now)
 kept-headers c = c .read-headers .kept .1 .1 .0 ∙ kept-start (search)
@@ -73,21 +78,21 @@ kept-headers c = c .read-headers .kept .1 .1 .0 ∙ kept-start (search)
 abbrev start-before-read-headers : tie.After-read-headers → tie.Start
 start-before-read-headers p = search
 
-headers-are : (c : tie.Else3) → (m : Message) × (each (readHeaderLine readHeader (lengths (lent-at (start-before-read-headers (search))))) (lines (parts-at (start-before-read-headers (search)) .headers)) blank ≡ accepted m)
+headers-are : (c : tie.Else3) → (m : Message) × (each (readHeaderLine readHeader (stores-at (start-before-read-headers (search)))) (lines (parts-at (start-before-read-headers (search)) .headers)) blank ≡ accepted m)
 headers-are c = zero-accepted _ _ (headers-read (search) .answered) (c .if3 .left)
 
 -- the content headers in the same way
 contents-read : (c : tie.After-read-contents)
-    → LinesRead (headLent (c .read-contents .result .message) (c .read-contents .last .1 .1 .0)) (numbersOf (c .read-contents .result)) (each (readContentLine (lengths (lent-at (start-before-read-headers (search))))) (lines (parts-at (start-before-read-headers (search)) .contents)) (headers-are (search) .0))
-unfolding lengths
+    → LinesRead (headLent (c .read-contents .result .message) (c .read-contents .last .1 .1 .0)) (numbersOf (c .read-contents .result)) (each (readContentLine (stores-at (start-before-read-headers (search)))) (lines (parts-at (start-before-read-headers (search)) .contents)) (headers-are (search) .0))
+unfolding lengths anyBody
 contents-read c =
     let h = headers-are (search) in
-    subst (LinesRead _ _) (contents-same _ (lengths (lent-at (start-before-read-headers (search)))) (kept-headers (search)) _ (h .0)) (c .read-contents .ensures (h .0) (headers-read (search) .held (h .0) (h .1)))
+    subst (LinesRead _ _) (contents-same _ (stores-at (start-before-read-headers (search))) (kept-headers (search)) _ (h .0)) (c .read-contents .ensures (h .0) (headers-read (search) .held (h .0) (h .1)))
 
 kept-contents : (c : tie.After-read-contents) → length (c .read-contents .last .1 .1 .0) ≡ length (start-before-read-headers (search) .args .head .now)
 kept-contents c = c .read-contents .kept .1 .1 .0 ∙ kept-headers (search)
 
-contents-are : (c : tie.Else4) → (m : Message) × (each (readContentLine (lengths (lent-at (start-before-read-headers (search))))) (lines (parts-at (start-before-read-headers (search)) .contents)) (headers-are (search) .0) ≡ accepted m)
+contents-are : (c : tie.Else4) → (m : Message) × (each (readContentLine (stores-at (start-before-read-headers (search)))) (lines (parts-at (start-before-read-headers (search)) .contents)) (headers-are (search) .0) ≡ accepted m)
 contents-are c = zero-accepted _ _ (contents-read (search) .answered) (c .if4 .left)
 
 slice-aggregate-says : tie.Need-slice-aggregate-says
@@ -99,12 +104,12 @@ returns : tie.Need-returns
 unfolding saysCpim
 returns c =
     let start : tie.Start = search in
-    no-cpim (text-at start) (parts-at start) (parts-are start) (lent-at start) (bothLent (c .no-message .result .message) (start .args .head .now) (start .args .body .now)) (numbersOf (c .no-message .result)) (ap numbersOf (c .no-message .ensures)) (sym (the tie.After-says (search) .says .ensures) ∙ not-true _ (the tie.Then1 (search) .if1 .taken))
+    no-cpim (text-at start) (parts-at start) (parts-are start) (lent-at start) (headLent (c .no-message .result .message) (start .args .head .now)) (numbersOf (c .no-message .result)) (ap numbersOf (c .no-message .ensures)) (sym (the tie.After-says (search) .says .ensures) ∙ not-true _ (the tie.Then1 (search) .if1 .taken))
 
 returns-2 : tie.Need-returns-2
 returns-2 c =
     let start : tie.Start = search in
-    no-room (text-at start) (parts-at start) (parts-are start) (lent-at start) (bothLent (c .no-message2 .result .message) (start .args .head .now) (start .args .body .now)) (numbersOf (c .no-message2 .result)) (said (search)) (ap numbersOf (c .no-message2 .ensures)) (omega arith)
+    no-room (text-at start) (parts-at start) (parts-are start) (lent-at start) (headLent (c .no-message2 .result .message) (start .args .head .now)) (numbersOf (c .no-message2 .result)) (said (search)) (ap numbersOf (c .no-message2 .ensures)) (omega arith)
 
 start-requires : tie.Need-start-requires
 start-requires c κs = omega arith
@@ -173,17 +178,17 @@ returns-4 c =
     let h = headers-are (search) in
     contents-stop (text-at start) (parts-at start) (parts-are start) (lent-at start) _ _ (said (else1-before-read-headers (search))) (omega (arith, else2-before-read-headers (search) .if2)) (h .0) (h .1) (contents-read (search) .answered) (c .if4 .taken)
 
-store-body-requires : tie.Need-store-body-requires
-store-body-requires c κs = (places (start-before-read-headers (search)) .within, start-before-read-headers (search) .pre .short)
+measure-body-requires : tie.Need-measure-body-requires
+measure-body-requires c κs = (places (start-before-read-headers (search)) .within, start-before-read-headers (search) .pre .short)
 
 same-length-3 : tie.Need-same-length-3
 same-length-3 c = kept-contents (search)
 
-abbrev else1-before-store-body : tie.After-store-body → tie.Else1
-else1-before-store-body p = else1-before-read-headers (search)
+abbrev else1-before-measure-body : tie.After-measure-body → tie.Else1
+else1-before-measure-body p = else1-before-read-headers (search)
 
-abbrev else2-before-store-body : tie.After-store-body → tie.Else2
-else2-before-store-body p = else2-before-read-headers (search)
+abbrev else2-before-measure-body : tie.After-measure-body → tie.Else2
+else2-before-measure-body p = else2-before-read-headers (search)
 
 returns-5 : tie.Need-returns-5
 returns-5 c =
@@ -191,13 +196,13 @@ returns-5 c =
     let h = headers-are (search) in
     let k = contents-are (search) in
     let read = contents-read (search) in
-    body-decides (text-at start) (parts-at start) (parts-are start) (lent-at start) _ _ (said (else1-before-store-body (search))) (omega (arith, else2-before-store-body (search) .if2)) (h .0) (h .1) (k .0) (k .1)
-    (by-same _ (the tie.After-read-contents (search) .read-contents .last .1 .1 .0) (start .args .head .now) (start .args .body .now) _ _ _ (k .0) (kept-contents (search)) (the tie.After-store-body (search) .store-body .ensures (the tie.After-read-contents (search) .read-contents .last .1 .1 .0) (k .0) (read .held (k .0) (k .1))))
+    body-decides (text-at start) (parts-at start) (parts-are start) (lent-at start) _ _ (said (else1-before-measure-body (search))) (omega (arith, else2-before-measure-body (search) .if2)) (h .0) (h .1) (k .0) (k .1)
+    (by-same _ (the tie.After-read-contents (search) .read-contents .last .1 .1 .0) (start .args .head .now) _ _ _ (k .0) (kept-contents (search)) (the tie.After-measure-body (search) .measure-body .ensures (the tie.After-read-contents (search) .read-contents .last .1 .1 .0) (k .0) (read .held (k .0) (k .1))))
 
 pub read-sections-spec : {M : Type 1} → statement M
 read-sections-spec =
     tie.close
     (tie.spec slice-aggregate-says (λ c. search needs) (λ c κs. search needs) (λ c κs. search needs) returns (λ c κs. search needs) returns-2
     start-requires sub-read-headers part-read-headers-start part-read-headers-end (λ c. search needs) read-headers-requires same-length returns-3
-    sub-read-contents part-read-contents-start part-read-contents-end read-contents-requires same-length-2 returns-4 store-body-requires same-length-3
-    (λ c. search needs) returns-5)
+    sub-read-contents part-read-contents-start part-read-contents-end read-contents-requires same-length-2 returns-4 measure-body-requires same-length-3
+    returns-5)
