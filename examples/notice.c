@@ -1,4 +1,4 @@
-/* Reads a notice, prints who it is from, sets a header, and writes it: C on the functions of crates/cpim/cpim.h. `make compare` runs it. */
+/* Reads a notice, prints who it is from, sets a header, writes it, and finds the body in what was written: C on the functions of crates/cpim/cpim.h. `make compare` runs it. */
 #include "cpim.h"
 
 #include <stdio.h>
@@ -45,5 +45,12 @@ int main(void) {
     bool whole = cpim_comes_back(a.message, head, sizeof head, body, sizeof body);
     printf("%llu bytes that %s:\n%.*s\n", (unsigned long long)n.length, whole ? "come back" : "do not come back",
            (int)n.length, (const char *)out);
+
+    /* Read again, the body left where it stands in the text. */
+    cpim_head_answer_t h = cpim_parse_head(out, n.length, head, sizeof head);
+    if (h.number != 0)
+        return refused("cpim_parse_head", h.number, h.carried);
+    if (h.in_text)
+        printf("its body: %llu bytes from byte %llu on\n", (unsigned long long)h.message.bodylen, (unsigned long long)h.start);
     return 0;
 }
