@@ -249,8 +249,8 @@ size_t cpim_count_contents(cpim_message_t m, const uint8_t *head, size_t head_le
 cpim_part_t cpim_address(const uint8_t *value, size_t value_len);
 
 /* Where all of them stand: a row of four numbers for each header, behind it those of its parameters, then for each content header. A row is where the
- * name begins, the name's length, the length of the value right behind it, and how many parameters. out_len counts numbers, and so does what 26 carries;
- * 2,280 are always enough. 25 carrying 0, 26. */
+ * name begins, the name's length, the length of the value right behind it, and how many parameters. out_len counts numbers, and 2,280 are always
+ * enough; what 26 carries counts bytes, 8 for each number. 25 carrying 0, 26. */
 cpim_numbers_t cpim_places(cpim_message_t m, const uint8_t *head, size_t head_len, size_t *out, size_t out_len);
 
 #ifdef __cplusplus

@@ -23,7 +23,7 @@ use Rattle.store_check.specs.Decoding.{messageIn}
 use Rattle.store_check.proofs.HeldParts.{part-of, held-parts}
 use Rattle.store_check.proofs.HeldCases.{in-head, not-held, head-held}
 use Rattle.lookup_nth.proofs.NthElement.{headers-params}
-use Rattle.lookup_places.specs.Rows.{itemsOf, rowsOf, placesOf, Placed}
+use Rattle.lookup_places.specs.Rows.{itemsOf, rowsOf, numberBytes, placesOf, Placed}
 use Rattle.lookup_places.specs.Fronts.{fronted, rowsIn, rowsHeld}
 use Rattle.lookup_places.proofs.Laid.{items-laid, laid-fronted, laid-rows, laid-few, rows-length, items-count}
 
@@ -79,22 +79,22 @@ module _ (m : CpimMessage) (head : Bytes) (out : List ℕ) where
 
   module _ (h : messageHolds m head ≡ true) where
     -- 26
-    pub placed-full : (n : ℕ) → n ≡ 4 * rowsHeld m head → length out < n → n < 2 ^ 64
-        → Placed (headLent m head) out out (record { number = 26; carried = n })
-    unfolding placesOf enough refuseIf _>>_ numbers table writes
+    pub placed-full : (n : ℕ) → n ≡ 4 * rowsHeld m head → length out < n → 8 * n < 2 ^ 64
+        → Placed (headLent m head) out out (record { number = 26; carried = 8 * n })
+    unfolding placesOf numberBytes enough refuseIf _>>_ numbers table writes
     placed-full n e short small =
-        let answer : Numbers = record { number = 26; carried = n } in
+        let answer : Numbers = record { number = 26; carried = 8 * n } in
         placed out answer
         (head-held m head (Says out out answer) h
-        (λ k held. rw (rows-many m head k held, sym e, lt-ltb (length out) n short) (sym (carried 26 n small), refl)))
+        (λ k held. rw (rows-many m head k held, sym e, lt-ltb (8 * length out) (8 * n) (omega arith)) (sym (carried 26 (8 * n) small), refl)))
 
     pub placed-rows : (written : List ℕ) → 4 * rowsHeld m head ≤ length out → written ≡ over (rowsIn (rowsHeld m head) 256 (drop 256 head)) out
         → Placed (headLent m head) out written (record { number = 0; carried = 0 })
-    unfolding placesOf enough refuseIf _>>_ numbers writes
+    unfolding placesOf numberBytes enough refuseIf _>>_ numbers writes
     placed-rows written room e =
         let answer : Numbers = record { number = 0; carried = 0 } in
         placed written answer
         (head-held m head (Says out written answer) h
         (λ k held.
-        let fits : length (rowsOf k) ≤ length out = omega (arith, rows-many m head k held) in
-        rw (le-ltb (length out) (length (rowsOf k)) fits) (refl, e ∙ ap (λ (x : List ℕ). over x out) (rows-read m head k held))))
+        let fits : 8 * length (rowsOf k) ≤ 8 * length out = omega (arith, rows-many m head k held) in
+        rw (le-ltb (8 * length out) (8 * length (rowsOf k)) fits) (refl, e ∙ ap (λ (x : List ℕ). over x out) (rows-read m head k held))))

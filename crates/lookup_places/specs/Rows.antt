@@ -2,7 +2,7 @@
 -- crates/format/specs/Layout.antt puts an entry's name 16 bytes behind its place, the value right behind the name, and the next
 -- entry, which may be a parameter of this one, right behind the value. That the bytes there are the name and the value is proved in
 -- proofs/Laid.antt (`row-there`). Assumes nothing.
-use Prim.Native.Nat.{ℕ, _+_}
+use Prim.Native.Nat.{ℕ, _+_, _*_}
 use mathlib.Core.Path.{_≡_}
 use mathlib.Core.List.{List, [], _∷_, _++_, map}
 use mathlib.Core.Option.{Option, none, some}
@@ -54,11 +54,15 @@ rowsFrom at (x ∷ xs) = rowOf at x ++ rowsFrom (at + itemSize x) xs
 unfoldable pub rowsOf : Message → List ℕ
 rowsOf m = rowsFrom 256 (itemsOf m)
 
--- 25 carrying 0 where nothing is held, then 26 carrying how many numbers there are
+-- the bytes that so many numbers take: a number is a `usize` of 64 bits, which are 8 bytes
+unfoldable pub numberBytes : ℕ → ℕ
+numberBytes n = 8 * n
+
+-- 25 carrying 0 where nothing is held, then 26 carrying the bytes needed, where the output has room for so many numbers
 unfoldable pub placesOf : Option Message → ℕ → Out (List ℕ)
 placesOf none room = refused nothingHeld
 placesOf (some m) room = do
-  enough room (length (rowsOf m))
+  enough (numberBytes room) (numberBytes (length (rowsOf m)))
   accepted (rowsOf m)
 
 -- what `places` ensures: l is what it is lent, n what it answers, and the rows are over the first numbers of out

@@ -59,7 +59,7 @@ fn row_count(m: CpimMessage, head: &[u8]) -> usize
     m.headers + count_all(&head[256..to], m.headers) + m.contents
 }
 
-// 25 carrying 0, then 26 carrying how many numbers are needed.
+// 25 carrying 0, then 26 carrying the bytes needed, 8 for each number.
 pub fn places(m: CpimMessage, head: &[u8], out: &mut [usize]) -> Numbers
     ensures { λ r. ⌜ Placed (headLent m (now (head .entry))) (now (out .entry)) (now (out .exit)) r ⌝ }
 {
@@ -72,9 +72,10 @@ pub fn places(m: CpimMessage, head: &[u8], out: &mut [usize]) -> Numbers
     let rows = row_count(m, head);
     let n = 4 * rows;
     if out.len() < n {
+        let bytes = 8 * n as u64;
         return Numbers {
             number: 26,
-            carried: n as u64,
+            carried: bytes,
         };
     }
     put_rows(head, rows, out);

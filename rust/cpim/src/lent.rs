@@ -130,7 +130,8 @@ impl<'a> Message<'a> {
         raw::body_as_str(self.record, self.head, self.body).then(|| text(self.body()))
     }
 
-    /// Where its headers and content headers stand; `rows` of [`MOST`] numbers are always enough. 26 carries how many are.
+    /// Where its headers and content headers stand; `rows` of [`MOST`] numbers are always enough. 26 carries the bytes needed, 8 for
+    /// each number.
     pub fn places<'b>(&'b self, rows: &'b mut [usize]) -> Result<Places<'b>, Refusal> {
         Places::find(self.record, self.head, rows)
     }

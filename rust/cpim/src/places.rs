@@ -3,6 +3,7 @@
 
 use crate::error::{Refusal, MAX_CONTENT_HEADERS, MAX_HEADERS, MAX_PARAMS_PER_HEADER};
 use crate::raw::{places, text, Numbers, Record};
+use std::mem::size_of;
 use std::ops::Range;
 
 /// How many numbers a row has.
@@ -16,7 +17,7 @@ pub(crate) fn rows_of(m: Record, head: &[u8]) -> Vec<usize> {
     let mut rows = vec![0; ROW * (m.headers + m.contents)];
     loop {
         match places(m, head, &mut rows) {
-            Numbers { number: 26, carried } => rows.resize(carried as usize, 0),
+            Numbers { number: 26, carried } => rows.resize(carried as usize / size_of::<usize>(), 0),
             Numbers { number: 0, .. } => return rows,
             refused => unreachable!("places in what is held: {refused:?}"),
         }
@@ -87,7 +88,7 @@ pub struct Places<'a> {
 }
 
 impl<'a> Places<'a> {
-    /// Finds them; 26 carries how many numbers `out` has to have, never more than [`MOST`].
+    /// Finds them; 26 carries the bytes that `out` has to have, never more than [`MOST`] numbers take.
     pub(crate) fn find(record: Record, head: &'a [u8], out: &'a mut [usize]) -> Result<Self, Refusal> {
         places(record, head, out).accepted()?;
         Ok(Places { record, head, rows: out })

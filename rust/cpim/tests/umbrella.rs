@@ -133,7 +133,7 @@ fn lent_stores() {
     let places = m.places(&mut rows).unwrap();
     assert_eq!(places.headers().map(|e| e.params().count()).collect::<Vec<_>>(), [0, 2, 0]);
     assert_eq!(places.content_headers().map(|e| (e.name(), e.value())).collect::<Vec<_>>(), [("Content-ID", "7")]);
-    assert_eq!(m.places(&mut []).err(), Some(Refusal { number: 26, carried: 24 }));
+    assert_eq!(m.places(&mut []).err(), Some(Refusal { number: 26, carried: 6 * 4 * 8 }));
     assert_eq!(m.loss(), Some(Loss::Parameter { header: 1, name: "Subject" }));
     assert_eq!((m.content_type(), m.body(), m.body_as_str()), ("text/plain", &b"Hi"[..], Some("Hi")));
 

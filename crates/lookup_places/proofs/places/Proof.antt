@@ -32,6 +32,12 @@ mul-n c =
     let s = start (search) in
     omega (arith, few (s .args .m) (s .args .head .now) (holds (search)), c .row-count .ensures)
 
+mul-bytes : tie.Need-mul-bytes
+mul-bytes c =
+    let counted : tie.After-row-count = search in
+    let s = start (search) in
+    omega (arith, few (s .args .m) (s .args .head .now) (holds (search)), counted .row-count .ensures)
+
 returns-2 : tie.Need-returns-2
 returns-2 c =
     let counted : tie.After-row-count = search in
@@ -61,4 +67,4 @@ returns-3 c =
 pub places-spec : {M : Type 1} → statement M
 places-spec =
     tie.close
-    (tie.spec (λ c κs. search needs) returns row-count-requires mul-n returns-2 put-rows-requires same-length returns-3)
+    (tie.spec (λ c κs. search needs) returns row-count-requires mul-n mul-bytes returns-2 put-rows-requires same-length returns-3)

@@ -131,8 +131,8 @@ pub fn count_contents(m: Record, head: &[u8]) -> usize {
 }
 
 /// Writes a row of four numbers to the start of `out` for each header in map order, behind it those of its parameters, then for each content
-/// header: where the name begins in `head`, the length of the name, of the value right behind it, and how many parameters. 26 carries how many
-/// numbers are needed.
+/// header: where the name begins in `head`, the length of the name, of the value right behind it, and how many parameters. 26 carries the
+/// bytes needed, 8 for each number.
 pub fn places(m: Record, head: &[u8], out: &mut [usize]) -> Numbers {
     unsafe { cpim_places(m, head.as_ptr(), head.len(), out.as_mut_ptr(), out.len()) }
 }

@@ -101,7 +101,7 @@ impl Looked {
         Ok(())
     }
 
-    /// The rows in some more room than they need, and in one number less.
+    /// The rows in some more room than they need, and in one number less: 26 carries bytes, 8 for each number.
     fn places(&mut self, l: &Lent, entries: &[Vec<Spot>; 2]) -> Compared {
         let rows: Vec<usize> = entries.iter().flat_map(|spots| rows_of(spots)).collect();
         let need = rows.len();
@@ -109,7 +109,7 @@ impl Looked {
             let (mut here, mut there) = (vec![7; room], vec![7; room]);
             let (number, carried) = match l.message {
                 None => (25, 0),
-                Some(_) if room < need => (26, need as u64),
+                Some(_) if room < need => (26, 8 * need as u64),
                 Some(_) => (0, 0),
             };
             if number == 0 {
