@@ -92,7 +92,7 @@ typedef struct {
     size_t value;
 } cpim_pair_t;
 
-/* A part of the text or of the buffer: whether of the text, where it begins, and its length. */
+/* A part of the text or of the buffer: whether of the text, where it begins, and its length. Where the text has no body: false, 0, 0. */
 typedef struct {
     bool in_text;
     size_t start;
@@ -124,7 +124,7 @@ cpim_head_answer_t cpim_parse_head(const uint8_t *text, size_t text_len, uint8_t
 cpim_length_answer_t cpim_read_body(const uint8_t *text, size_t text_len, uint8_t *buffer, size_t buffer_len);
 
 /* The body behind cpim_read_body, by the length that it gave: a part of the text under CRLFCRLF, whatever the length; the buffer's start under LFLF.
- * Empty where cpim_read_body refuses by 1, 24, 2 or 23, and under LFLF where the length exceeds the buffer. */
+ * Empty, at the buffer's start, where cpim_read_body refuses by 1, 24, 2 or 23, and under LFLF where the length exceeds the buffer. */
 cpim_body_place_t cpim_body_part(const uint8_t *text, size_t text_len, const uint8_t *buffer, size_t buffer_len,
                                  size_t length);
 

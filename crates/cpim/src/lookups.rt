@@ -132,7 +132,7 @@ pub extern "C" fn cpim_address(value: &[u8]) -> Part
 
 // The second call for the body without a store: a part of the text or of the buffer.
 #[no_mangle]
-pub extern "C" fn cpim_body_part<'a>(text: &'a [u8], buffer: &'a [u8], length: usize) -> BodyPlace
+pub extern "C" fn cpim_body_part(text: &[u8], buffer: &[u8], length: usize) -> BodyPlace
     ensures { λ r. ⌜ PlaceIs (now (text .entry)) (now (buffer .entry)) length r ⌝ }
 {
     read_split::body_place(text, buffer, length)

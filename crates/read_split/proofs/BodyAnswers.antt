@@ -1,19 +1,17 @@
--- The body without a store: the answers of the two calls by what was judged. Assumes nothing.
+-- The body without a store: what the body is by what was judged, and the answers of the first call. Assumes nothing.
 use Prim.Native.Nat.{ℕ, _^_, _≤_, _<_}
 use mathlib.Core.Path.{_≡_, refl, sym, ap, _∙_}
 use mathlib.Core.Bool.{Bool, true, false}
-use mathlib.Core.List.{[]}
 use native.Mathlib.Omega.{arith}
-use lib.Dec.{leb}
-use lib.ListN.{length, take}
-use borrow.Author.Tests.{le-leb, lt-leb, lt-ltb}
+use lib.ListN.{length}
+use borrow.Author.Tests.{lt-ltb}
 use Rattle.format.specs.Bytes.{Bytes, if_then_else_, over}
 use Rattle.format.specs.Limits.{maxBody}
 use Rattle.format.specs.Refusals.{Refusal, bodyTooLong, tooShort, table, Out, accepted, refused, numbers, Check, refuseIf, _>>_, _>>=_}
 use Rattle.format.specs.Reading.{Parts, textParts}
 use Rattle.format.specs.Calls.{bodyLength, enough}
 use Rattle.format.specs.Writing.{writes}
-use Rattle.format.specs.LookingUp.{bodyOfText, inText, bufferFor, findBody, bodyLengthOf, bufferAfter, partOf, bodyPart}
+use Rattle.format.specs.LookingUp.{bodyOfText, inText, bufferFor, findBody, bodyLengthOf, bufferAfter}
 use Rattle.format.specs.declared.Numbers.{Numbers}
 use Rattle.format.proofs.Steps.{atMost-passed, then-passed, then-bind, bind-passed}
 use Rattle.format.proofs.Answers.{carried, over-limit, space-enough}
@@ -43,7 +41,7 @@ bind-refused x f r h = rw h refl
 
 -- 1, 24 or 2
 module _ (t : Bytes) (n : Numbers) (h : Refuses (textParts t) n) where
-  no-body : bodyOfText t ≡ refused (refusal (textParts t) n h .0)
+  pub no-body : bodyOfText t ≡ refused (refusal (textParts t) n h .0)
   unfolding bodyOfText
   no-body = bind-refused (textParts t) _ (refusal (textParts t) n h .0) (refusal (textParts t) n h .1)
 
@@ -51,10 +49,6 @@ module _ (t : Bytes) (n : Numbers) (h : Refuses (textParts t) n) where
   unfolding findBody numbers bodyLengthOf writes
   found-none buffer =
       found-by t buffer buffer n 0 (refused (refusal (textParts t) n h .0)) (bind-refused (bodyOfText t) _ _ no-body) (refusal (textParts t) n h .2) refl (unwritten (inText t) buffer)
-
-  pub part-none : (buffer : Bytes) (len : ℕ) → [] ≡ bodyPart t buffer len
-  unfolding bodyPart
-  part-none buffer len = sym (ap (λ (o : Out Bytes). partOf o (inText t) buffer len) no-body)
 
 -- The text's parts are p, whose body has n bytes.
 module _ (t : Bytes) (p : Parts) (e : textParts t ≡ accepted p) (n : ℕ) (size : n ≡ length (p .body)) where
@@ -79,18 +73,16 @@ module _ (t : Bytes) (p : Parts) (e : textParts t ≡ accepted p) (n : ℕ) (siz
     found-long buffer f =
         found-by t buffer buffer _ 0 (refused (bodyTooLong n)) (find-is (length buffer) ∙ refused-23 _) (sym (carried 23 n f)) refl (unwritten (inText t) buffer)
 
-    pub part-long : (buffer : Bytes) (len : ℕ) → [] ≡ bodyPart t buffer len
-    unfolding bodyPart
-    part-long buffer len = sym (ap (λ (o : Out Bytes). partOf o (inText t) buffer len) (body-is ∙ refused-23 (accepted (p .body))))
+    pub long-body : bodyOfText t ≡ refused (bodyTooLong n)
+    long-body = body-is ∙ refused-23 (accepted (p .body))
 
   module _ (short : n ≤ maxBody) where
     passed-23 : {A : Type 0} (o : Out A) → _>>_ (bodyLength (p .body)) o ≡ o
     unfolding bodyLength
     passed-23 o = then-passed (bodyLength (p .body)) o (atMost-passed maxBody bodyTooLong (length (p .body)) (omega arith))
 
-    given : (buffer : Bytes) (len : ℕ) → bodyPart t buffer len ≡ (if inText t then p .body else if leb len (length buffer) then take len buffer else [])
-    unfolding bodyPart
-    given buffer len = ap (λ (o : Out Bytes). partOf o (inText t) buffer len) (body-is ∙ passed-23 (accepted (p .body)))
+    pub short-body : bodyOfText t ≡ accepted (p .body)
+    short-body = body-is ∙ passed-23 (accepted (p .body))
 
     -- under CRLFCRLF
     module _ (inside : inText t ≡ true) where
@@ -98,9 +90,6 @@ module _ (t : Bytes) (p : Parts) (e : textParts t ≡ accepted p) (n : ℕ) (siz
       unfolding bufferFor _>>_ numbers bodyLengthOf
       found-inside buffer =
           found-by t buffer buffer _ n (accepted (p .body)) (find-is (length buffer) ∙ passed-23 _ ∙ rw inside refl) refl size (rw inside refl)
-
-      pub part-inside : (buffer : Bytes) (len : ℕ) → p .body ≡ bodyPart t buffer len
-      part-inside buffer len = sym (given buffer len ∙ rw inside refl)
 
     -- under LFLF
     module _ (outside : inText t ≡ false) where
@@ -120,9 +109,3 @@ module _ (t : Bytes) (p : Parts) (e : textParts t ≡ accepted p) (n : ℕ) (siz
       found-outside buffer after h w =
           found-by t buffer after _ n (accepted (p .body)) (checked (length buffer) ∙ then-passed (enough (length buffer) n) _ (space-enough (length buffer) n h)) refl
           size (w ∙ rw outside refl)
-
-      pub part-over : (buffer : Bytes) (len : ℕ) → length buffer < len → [] ≡ bodyPart t buffer len
-      part-over buffer len h = sym (given buffer len ∙ rw (outside, lt-leb len (length buffer) h) refl)
-
-      pub part-outside : (buffer : Bytes) (len : ℕ) → len ≤ length buffer → take len buffer ≡ bodyPart t buffer len
-      part-outside buffer len h = sym (given buffer len ∙ rw (outside, le-leb len (length buffer) h) refl)

@@ -9,13 +9,12 @@ use sections::first_three;
 use store_check::MAX_BODY_SIZE;
 use utf8::is_utf8;
 ghost use mathlib.Core.Path.{_≡_};
-ghost use mathlib.Core.Bool.{true};
-ghost use Prim.Native.Nat.{_-_, _≤_};
+ghost use Prim.Native.Nat.{_≤_};
 ghost use lib.ListN.{length, drop};
 ghost use Rattle.format.specs.Limits.{maxText};
 ghost use Rattle.format.specs.Refusals.{numbers};
-ghost use Rattle.format.specs.LookingUp.{findBody, bodyLengthOf, bufferAfter, inText, bodyPart};
-ghost use Rattle.read_split.specs.BodyPlaces.{PlaceIs};
+ghost use Rattle.format.specs.LookingUp.{findBody, bodyLengthOf, bufferAfter, bodyPart};
+ghost use Rattle.read_split.specs.BodyPlaces.{nowhere, PlaceIs};
 ghost use Rattle.read_split.specs.TextJudged.{Judged, bodyBehind};
 
 pub const MAX_PARSE_SIZE: usize = 20971520;
@@ -161,10 +160,20 @@ pub fn read_body(text: &[u8], buffer: &mut [u8]) -> LengthAnswer
     }
 }
 
-// Part of the text under CRLFCRLF, part of the buffer under LFLF: its first bytes, so many.
-pub fn body_part<'a>(text: &'a [u8], buffer: &'a [u8], len: usize) -> &'a [u8]
-    ensures part { λ r. ⌜ now r ≡ bodyPart (now (text .entry)) (now (buffer .entry)) len ⌝ }
-    ensures behind { λ r. ⌜ (inText (now (text .entry)) ≡ true → now r ≡ drop (length (now (text .entry)) - length (now r)) (now (text .entry))) ⌝ }
+// The place of an empty part where there is no body.
+fn nowhere() -> BodyPlace
+    ensures { λ r. ⌜ r ≡ nowhere ⌝ }
+{
+    BodyPlace {
+        in_text: false,
+        start: 0,
+        length: 0,
+    }
+}
+
+// Where the part stands that the second call gives: judged by 1, 24, 2 and 23, then under LFLF by the length.
+pub fn body_place(text: &[u8], buffer: &[u8], len: usize) -> BodyPlace
+    ensures { λ r. ⌜ PlaceIs (now (text .entry)) (now (buffer .entry)) len r ⌝ }
 {
     let judgement = judge(text);
     let Judgement::Parted {
@@ -177,36 +186,38 @@ pub fn body_part<'a>(text: &'a [u8], buffer: &'a [u8], len: usize) -> &'a [u8]
         rest,
     } = judgement
     else {
-        return &text[..0];
+        return nowhere();
     };
     if MAX_BODY_SIZE < body_len(text, crlf, rest) {
-        return &text[..0];
+        return nowhere();
     }
     if crlf {
-        return &text[rest..];
-    }
-    if buffer.len() < len {
-        return &buffer[..0];
-    }
-    &buffer[..len]
-}
-
-// The same by place: under CRLFCRLF the body is the end of the text.
-pub fn body_place<'a>(text: &'a [u8], buffer: &'a [u8], len: usize) -> BodyPlace
-    ensures { λ r. ⌜ PlaceIs (now (text .entry)) (now (buffer .entry)) len r ⌝ }
-{
-    let part = body_part(text, buffer, len);
-    let n = part.len();
-    if crlf_sections(text) {
+        let n = text.len() - rest;
         return BodyPlace {
             in_text: true,
-            start: text.len() - n,
+            start: rest,
             length: n,
         };
+    }
+    if buffer.len() < len {
+        return nowhere();
     }
     BodyPlace {
         in_text: false,
         start: 0,
-        length: n,
+        length: len,
     }
+}
+
+// Part of the text under CRLFCRLF, part of the buffer under LFLF: its first bytes, so many.
+pub fn body_part<'a>(text: &'a [u8], buffer: &'a [u8], len: usize) -> &'a [u8]
+    ensures { λ r. ⌜ now r ≡ bodyPart (now (text .entry)) (now (buffer .entry)) len ⌝ }
+{
+    let place = body_place(text, buffer, len);
+    let start = place.start;
+    let end = start + place.length;
+    if place.in_text {
+        return &text[start..end];
+    }
+    &buffer[start..end]
 }

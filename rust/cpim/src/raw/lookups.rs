@@ -35,7 +35,7 @@ impl Pair {
     }
 }
 
-/// A part of the text or of the buffer: in which of the two, where it begins, and its length.
+/// A part of the text or of the buffer: in which of the two, where it begins, and its length. Where the text has no body: false, 0, 0.
 #[repr(C)]
 #[derive(Clone, Copy, Debug, PartialEq, Eq)]
 pub struct BodyPlace {
@@ -143,7 +143,7 @@ pub fn address(value: &[u8]) -> Part {
 }
 
 /// The body of a text behind [`read_body`](super::read_body), by the length that it gave: a part of the text under CRLFCRLF, of the buffer under
-/// LFLF. Empty where that refuses by 1, 24, 2 or 23, or the length exceeds the buffer.
+/// LFLF. Empty, at the buffer's start, where that refuses by 1, 24, 2 or 23, and under LFLF where the length exceeds the buffer.
 pub fn body_part(text: &[u8], buffer: &[u8], length: usize) -> BodyPlace {
     unsafe { cpim_body_part(text.as_ptr(), text.len(), buffer.as_ptr(), buffer.len(), length) }
 }

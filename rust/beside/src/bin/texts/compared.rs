@@ -207,6 +207,7 @@ impl Compared {
         if got != want || got.of(text, lent) != part {
             differ("The second call for the body", &(buffer, length), text, &got, &want);
         }
-        self.tally.parts[usize::from(!got.in_text)] += 1;
+        let kind = if reading.body.is_err() { 2 } else { usize::from(reading.joined) };
+        self.tally.parts[kind] += 1;
     }
 }

@@ -70,14 +70,13 @@ impl Reading {
 
     /// What the second call must give for a text with a buffer and a length: whether it stands in the text, where, and its bytes.
     pub fn part<'a>(&'a self, text: &[u8], buffer: &'a [u8], length: usize) -> (BodyPlace, &'a [u8]) {
-        let crlf = text.windows(4).any(|w| w == CRLFCRLF.as_bytes());
-        let part = match &self.body {
-            Err(_) => &[],
-            Ok(body) if crlf => &body[..],
-            Ok(_) => buffer.get(..length).unwrap_or_default(),
+        let (in_text, part) = match &self.body {
+            Err(_) => (false, &[][..]),
+            Ok(body) if !self.joined => (true, &body[..]),
+            Ok(_) => (false, buffer.get(..length).unwrap_or_default()),
         };
-        let start = if crlf { text.len() - part.len() } else { 0 };
-        (BodyPlace { in_text: crlf, start, length: part.len() }, part)
+        let start = if in_text { text.len() - part.len() } else { 0 };
+        (BodyPlace { in_text, start, length: part.len() }, part)
     }
 }
 

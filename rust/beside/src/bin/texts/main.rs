@@ -78,8 +78,8 @@ fn main() {
     let [written, nothing, short] = all.written.map(grouped);
     println!("Written: {written}; 25 carrying 0: {nothing}, 26: {short}.");
     let bodies = [0, 1, 2, 23, 24, 26].map(|k| all.bodies[k]);
-    let [in_text, in_buffer] = all.parts.map(grouped);
-    println!("The second call for the body: {in_text} in the text, {in_buffer} in the buffer.");
+    let [in_text, in_buffer, none] = all.parts.map(grouped);
+    println!("The second call for the body: {in_text} in the text, {in_buffer} in the buffer, {none} without a body.");
     if [&all.read[..], &bodies, &all.written, &all.parts].iter().any(|answers| answers.contains(&0)) {
         eprintln!("an answer was never seen: {:?}, {:?}, {:?}", all.read, all.bodies, all.written);
         exit(1);

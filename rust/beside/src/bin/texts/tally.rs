@@ -3,13 +3,13 @@
 use beside::exports::BY_TEXTS;
 
 /// How often each answer was given by reading and by the body without a store: accepted (0) and each number; by writing: accepted,
-/// 25 carrying 0, 26; by the second call for the body: in the text, in the buffer.
+/// 25 carrying 0, 26; by the second call for the body: in the text, in the buffer, of a text without a body.
 #[derive(Clone, Default)]
 pub struct Tally {
     pub read: [u64; 27],
     pub bodies: [u64; 27],
     pub written: [u64; 3],
-    pub parts: [u64; 2],
+    pub parts: [u64; 3],
 }
 
 impl Tally {
