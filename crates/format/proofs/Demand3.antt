@@ -4,6 +4,7 @@
 use Prim.Native.Nat.{ℕ, _+_, _≤_}
 use mathlib.Core.Path.{_≡_, refl, sym, ap, _∙_, subst}
 use mathlib.Core.Bool.{true}
+use mathlib.Core.Logic.{_↔_}
 use mathlib.Core.Option.{Option, none, some}
 use native.Mathlib.Omega.{arith}
 use lib.ListN.{length}
@@ -166,9 +167,13 @@ demand-3 =
       parsed = λ t m r s u n w room.
           let v = history-holds t m r .within in
           (parsed-back m v s u n w, parsed-whole m v s u n w room);
-      equal = λ t u m k r q cm ck. (same-text m k (history-holds t m r .within) (history-holds u k q .within) cm ck, ap write);
+      equal = λ m k vm vk cm ck. (same-text m k vm vk cm ck, ap write);
       begins-new = new-begins;
       begins-reading = reading-begins;
       runs = runs-on;
       writes = has-writing;
     }
+
+-- equal texts, of the messages that two lists of calls lead to
+pub histories-equal : (t u : State) (m k : Message) → History t m → History u k → comesBack m ≡ true → comesBack k ≡ true → (write m ≡ write k) ↔ (m ≡ k)
+histories-equal t u m k r q = demand-3 .equal m k (demand-3 .held t m r .within) (demand-3 .held u k q .within)

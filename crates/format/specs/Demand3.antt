@@ -10,7 +10,7 @@ use lib.ListN.{length}
 use Rattle.format.specs.Bytes.{Bytes, ascii, isEmpty, all, sameLetters, over}
 use Rattle.format.specs.Characters.{isUtf8, isWhite, isLost, clearEnds}
 use Rattle.format.specs.Refusals.{Out, accepted, refused, _carrying_}
-use Rattle.format.specs.Message.{Entry, Header, Message, need, validAlone}
+use Rattle.format.specs.Message.{Entry, Header, Message, need, validAlone, valid}
 use Rattle.format.specs.Calls.{Stores, Call, Lends, body-store, header-store, head-alone, lends, answer, new}
 use Rattle.format.specs.Writing.{write}
 use Rattle.format.specs.Reading.{read}
@@ -128,10 +128,11 @@ pub record Demand3 : Type 0 where
       Parsed (write m) (lend true s) (lend true u) n →
       RoomFor m (lengths (lend true s)) →
       ((n ≡ 0 carrying 0) × Holds (lend true u) m) ↔ (comesBack m ≡ true)
-  -- Two messages that both meet the condition have equal texts exactly when they are equal.
-  pub equal : (t u : State) (m k : Message) →
-      History t m →
-      History u k →
+  -- Two messages that both meet the condition have equal texts exactly when they are equal. So it is of any two within limits and
+  -- validators, and by `held` those that lists of calls lead to are among them (`histories-equal` in proofs/Demand3.antt).
+  pub equal : (m k : Message) →
+      valid m ≡ true →
+      valid k ≡ true →
       comesBack m ≡ true →
       comesBack k ≡ true →
       (write m ≡ write k) ↔ (m ≡ k)
