@@ -1,8 +1,20 @@
 # `make` proves everything and prints what is proved of the whole; `make show` is a first look; `make test` is the gate.
-.PHONY: prove show test examples compare bench format library calls gateway notice rt cargo
+.PHONY: prove show test proofs examples compare bench format library gateway notice rt cargo
+
+# What fails left of a pipe fails.
+SHELL := bash
+.SHELLFLAGS := -eu -o pipefail -c
+
+# One rt at a time: rt takes no lock, and the build scripts of rust/ run it too (rust/cpim/link.rs).
+LOCKED := flock .rt-lock
+RT := $(LOCKED) rt
+
+# What is compared is what was proved here.
+unexport CPIM_LIB_DIR
+RUST := --offline --quiet --manifest-path rust/Cargo.toml
 
 prove: rt
-	@rt prove
+	@$(RT) prove
 	@echo
 	@echo "Proved, among the rest (crates/format/specs/Demand3.antt):"
 	@echo
@@ -10,63 +22,66 @@ prove: rt
 
 # A first look: the programs, proved with all that they rest on, then run on a notice.
 show: rt
-	@rt check showcpim wholecpim
+	@$(RT) check showcpim wholecpim
 	@echo
 	@target/bin/showcpim <examples/umbrella.cpim
 	@target/bin/wholecpim <examples/umbrella.cpim
 
-# rt ci removes target/ and proves everything; the comparison comes behind it and finds all of that proved. The last line is rt's
-# own once more: 'N passed, 0 failed'.
-test: rt cargo
-	@rt fmt --check
+# What needs the Rattle toolchain alone, then what needs Rust too. The last line is rt's own once more: 'N passed, 0 failed'.
+test: proofs
+	@$(MAKE) --no-print-directory compare
+	@tail -n 1 target/ci.out
+
+# rt ci removes target/ and proves everything; what comes behind it finds all of that proved.
+proofs: rt
+	@$(RT) fmt --check
 	@.ci/refused-test
-	@said=$$(mktemp) && { rt ci | tee "$$said"; mv "$$said" target/ci.out; }
+	@.ci/gate-test
+	@said=$$(mktemp); trap 'rm -f "$$said"' EXIT; $(RT) ci | tee "$$said"; cp "$$said" target/ci.out
 	@tail -n 1 target/ci.out | grep -q ' passed, 0 failed$$'
 	@.ci/refused
-	@$(MAKE) --no-print-directory examples compare
-	@tail -n 1 target/ci.out
+	@$(MAKE) --no-print-directory examples
 
 # The programs on the notices of examples/, held to what stands beside each.
 examples: rt
-	@out=$$(rt check showcpim wholecpim) || { printf '%s\n' "$$out"; exit 1; }
+	@out=$$($(RT) check showcpim wholecpim) || { printf '%s\n' "$$out"; exit 1; }
 	@for notice in examples/*.cpim; do \
 		target/bin/showcpim <"$$notice" | cmp - "$${notice%.cpim}.show" || exit 1; \
 		target/bin/wholecpim <"$$notice" | cmp - "$${notice%.cpim}.whole" || exit 1; \
 	done; echo "examples: the programs print what stands beside each notice"
 
 # The leaves beside Rust's standard library and the source; lists of calls, and texts read and written, beside the source; the gateway's crate.
-compare: cargo library calls gateway notice
-	@cargo run --release --offline --quiet --manifest-path rust/Cargo.toml --bin compare
-	@cargo run --release --offline --quiet --manifest-path rust/Cargo.toml --bin calls
-	@cargo run --release --offline --quiet --manifest-path rust/Cargo.toml --bin texts
-	@cargo run --release --offline --quiet --manifest-path rust/Cargo.toml --bin gateway
+compare: cargo library gateway notice
+	@cargo run --release $(RUST) --bin compare
+	@cargo run --release $(RUST) --bin calls
+	@cargo run --release $(RUST) --bin texts
+	@cargo run --release $(RUST) --bin gateway
 
-# The gateway's crate by itself: its tests and the examples in its comments; and the C header.
-gateway: cargo calls
+# The gateway's crate by itself: its build script, its tests and the examples in its comments; and the C header.
+gateway: cargo library
+	@.ci/build-test
 	@for tests in '-p cpim' '-p beside --test c_header'; do \
-	  out=$$(cargo test --offline --quiet --manifest-path rust/Cargo.toml $$tests 2>&1) || { printf '%s\n' "$$out"; exit 1; }; \
+	  out=$$(cargo test $(RUST) $$tests 2>&1) || { printf '%s\n' "$$out"; exit 1; }; \
 	done
 
-# A program in C on the header and the library: what it prints is examples/notice.out.
-notice: calls
+# A program in C on the header and the library, which the crate's build leaves in target/staticlib: what it prints is examples/notice.out.
+notice: cargo library
 	@command -v cc >/dev/null || { echo "cc is not on the PATH: the example in C needs a C compiler"; exit 1; }
-	@cc -std=c99 -Wall -Wextra -Wpedantic -Werror -Icrates/cpim examples/notice.c target/staticlib/libcpim.a -o target/notice
+	@cargo build $(RUST) -p cpim
+	@$(LOCKED) cc -std=c99 -Wall -Wextra -Wpedantic -Werror -Icrates/cpim examples/notice.c target/staticlib/libcpim.a -o target/notice
 	@target/notice | cmp - examples/notice.out
 
 # What the leaves and the gateway's crate cost, as ratios (docs/BENCHMARKS.md).
-bench: cargo library calls
-	@cargo run --release --offline --quiet --manifest-path rust/Cargo.toml --bin bench
-	@cargo run --release --offline --quiet --manifest-path rust/Cargo.toml --bin workloads
+bench: cargo library
+	@cargo run --release $(RUST) --bin bench
+	@cargo run --release $(RUST) --bin workloads
 
-# What rt prints besides its progress is shown where it fails.
+# What the build scripts make libraries of: they prove without a word, this says each crate that was not proved yet.
 library: rt
-	@out=$$(rt staticlib leaf_exports) || { printf '%s\n' "$$out"; exit 1; }
-
-calls: rt
-	@out=$$(rt staticlib cpim) || { printf '%s\n' "$$out"; exit 1; }
+	@$(RT) check cpim leaf_exports | grep -v ' (unchanged since '
 
 format: rt
-	@rt fmt
+	@$(RT) fmt
 
 rt:
 	@command -v rt >/dev/null || { echo "rt is not on the PATH: install the Rattle toolchain first"; exit 1; }

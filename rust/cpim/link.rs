@@ -1,43 +1,200 @@
-//! For build scripts.
+//! For build scripts: links a library that was proved from the sources as they are, and has it proved and built where there is none.
 
+#[path = "sha256.rs"]
+mod sha256;
+#[path = "stamp.rs"]
+mod stamp;
+
+use sha256::sha256;
+use stamp::{Sources, Stamp};
+use std::env;
+use std::fs::{self, File, OpenOptions};
+use std::io::{self, ErrorKind};
+use std::path::{Path, PathBuf};
 use std::process::{exit, Command};
-use std::time::SystemTime;
-use std::{fs, path::Path};
 
-/// When the newest file at or below a path was changed.
-fn newest(path: &Path) -> Option<SystemTime> {
-    if path.is_dir() {
-        return fs::read_dir(path).ok()?.flatten().filter_map(|entry| newest(&entry.path())).max();
+/// Links lib`name`.a of target/staticlib, or of the folder that CPIM_LIB_DIR names. Where that cannot be, one sentence says what to do.
+pub fn link(name: &str) {
+    // The bytes whose digest was compared are the ones that are linked, from a folder that nobody else writes or removes.
+    let out = PathBuf::from(variable("OUT_DIR"));
+    let copied = library(name, &out).and_then(|bytes| {
+        let copy = out.join(format!("lib{name}.a"));
+        fs::write(&copy, bytes).map_err(|e| format!("{} cannot be written ({e})", copy.display()))
+    });
+    if let Err(why) = copied {
+        eprintln!("{name}: {why}.");
+        exit(1);
     }
-    path.metadata().ok()?.modified().ok()
+    println!("cargo:rustc-link-search=native={}", out.display());
+    println!("cargo:rustc-link-lib=static={name}");
 }
 
-/// Links a library of target/staticlib; where it is not there, or older than the sources, it is proved and built first: what is linked has to be
-/// what the sources say.
-pub fn link(name: &str) {
-    let root = Path::new("../..").canonicalize().expect("the repository");
-    let folder = root.join("target/staticlib");
-    let library = folder.join(format!("lib{name}.a"));
-    let sources = [root.join("crates"), root.join("crates.txt")];
-    let changed = sources.iter().filter_map(|path| newest(path)).max();
-    if newest(&library) <= changed {
-        let missing = match Command::new("rt").args(["staticlib", name]).current_dir(&root).status() {
-            Ok(status) if status.success() => None,
-            Ok(status) => Some(format!("`rt staticlib {name}` failed ({status}): see target/log/{name}.out")),
-            Err(e) => Some(format!(
-                "the proved library is not built, or older than the sources, and `rt` cannot be run to build it ({e}).\nInstall the Rattle \
-                 toolchain, or copy the library from a machine that has it, where `rt staticlib {name}` makes it of the same sources, to\n{}",
-                library.display()
-            )),
-        };
-        if let Some(why) = missing {
-            eprintln!("{why}");
-            exit(1);
+fn library(name: &str, out: &Path) -> Result<Vec<u8>, String> {
+    println!("cargo:rerun-if-env-changed=CPIM_LIB_DIR");
+    let machine = format!("{} {}", variable("CARGO_CFG_TARGET_ARCH"), variable("CARGO_CFG_TARGET_OS"));
+    if machine != "x86_64 linux" {
+        return Err(format!(
+            "the proved library is compiled for x86_64 linux alone, and this build is for {machine}: build with `--target x86_64-unknown-linux-gnu`"
+        ));
+    }
+    let root = Path::new(&variable("CARGO_MANIFEST_DIR")).join("../..");
+    let root = root.canonicalize().map_err(|e| format!("{} cannot be read ({e})", root.display()))?;
+    let elsewhere = PathBuf::from(variable("CPIM_LIB_DIR"));
+    match (elsewhere.as_os_str().is_empty(), Sources::are_at(&root, name)) {
+        (false, true) => built_elsewhere(&elsewhere, name, Some(&watched(&root, name)?)),
+        (false, false) => built_elsewhere(&elsewhere, name, None),
+        (true, true) => built_here(&root, name, out),
+        (true, false) => Err(format!(
+            "this copy of the package has no crates/ beside it, from which the library is proved: {}",
+            way_out(name)
+        )),
+    }
+}
+
+/// The library of target/staticlib. The lock is held before anything is compared, so whoever waited finds what the other has built.
+fn built_here(root: &Path, name: &str, out: &Path) -> Result<Vec<u8>, String> {
+    let lock = lock(root);
+    let sources = watched(root, name)?;
+    let toolchain = toolchain();
+    let (library, stamp) = watched_files(&root.join("target/staticlib"), name);
+    let stamp_of = |bytes: &[u8], toolchain: &str| Stamp {
+        version: variable("CARGO_PKG_VERSION"),
+        sources: sources.digest.clone(),
+        toolchain: toolchain.to_string(),
+        library: sha256(bytes),
+    };
+
+    if let (Ok(bytes), Some(said)) = (fs::read(&library), Stamp::read(&stamp)) {
+        // Without `rt` the toolchain that built it can only be believed.
+        if said == stamp_of(&bytes, toolchain.as_ref().unwrap_or(&said.toolchain)) {
+            return Ok(bytes);
         }
     }
-    println!("cargo:rustc-link-search=native={}", folder.display());
-    println!("cargo:rustc-link-lib=static={name}");
-    for path in sources.iter().chain([&library]) {
+
+    let toolchain = toolchain.map_err(|why| {
+        format!(
+            "{why}, and target/staticlib has no library with a stamp of these sources: install the Rattle toolchain, or {}",
+            way_out(name)
+        )
+    })?;
+    let cannot_write = |e: io::Error| {
+        format!(
+            "the library has to be proved in {}, which cannot be written ({e}): build in a copy of it, or {}",
+            root.display(),
+            way_out(name)
+        )
+    };
+    let lock = lock.map_err(cannot_write)?;
+    // From here until the new stamp is written the library has none.
+    fs::create_dir_all(root.join("target/staticlib")).and_then(|()| fs::write(&stamp, "")).map_err(cannot_write)?;
+    // `rt check` proves on all processors, `rt staticlib` one crate after the other.
+    for command in ["check", "staticlib"] {
+        rt(root, command, name, &lock, &out.join("rt.out"))?;
+    }
+    if Sources::read(root, name)?.digest != sources.digest {
+        return Err("the sources were changed while they were proved: build again".to_string());
+    }
+    let bytes = fs::read(&library).map_err(|e| format!("{} cannot be read ({e})", library.display()))?;
+    fs::write(&stamp, stamp_of(&bytes, &toolchain).text()).map_err(cannot_write)?;
+    Ok(bytes)
+}
+
+/// The library of a folder. Its stamp has to fit the sources, or the package's version where there are none.
+fn built_elsewhere(folder: &Path, name: &str, sources: Option<&Sources>) -> Result<Vec<u8>, String> {
+    let fails = |why: String| Err(format!("CPIM_LIB_DIR is {}, {why}", folder.display()));
+    if !folder.is_absolute() {
+        return fails("and has to be a path from the root".to_string());
+    }
+    let (library, stamp) = watched_files(folder, name);
+    let (Ok(bytes), Some(said)) = (fs::read(library), Stamp::read(&stamp)) else {
+        return fails(format!("where lib{name}.a or lib{name}.stamp is missing or cannot be read: {}", way_out(name)));
+    };
+    if said.library != sha256(&bytes) {
+        return fails(format!("where lib{name}.stamp was not written for lib{name}.a: copy both anew"));
+    }
+    let version = variable("CARGO_PKG_VERSION");
+    match sources {
+        Some(sources) if said.sources != sources.digest => {
+            fails(format!("whose lib{name}.a was built from other sources than these: {}", way_out(name)))
+        }
+        None if said.version != version => fails(format!(
+            "whose lib{name}.a belongs to version {}, and this package is version {version}: {}",
+            said.version,
+            way_out(name)
+        )),
+        _ => Ok(bytes),
+    }
+}
+
+fn way_out(name: &str) -> String {
+    format!(
+        "name in CPIM_LIB_DIR a folder with lib{name}.a and lib{name}.stamp as a build from the same sources leaves them in target/staticlib where \
+         `rt` is"
+    )
+}
+
+/// The lock that all hold who run `rt` in this repository (the Makefile by flock), because `rt` takes none. It is not in target/, which `rt ci`
+/// removes.
+fn lock(root: &Path) -> io::Result<File> {
+    let path = root.join(".rt-lock");
+    let file = File::open(&path).or_else(|_| OpenOptions::new().read(true).append(true).create(true).open(&path))?;
+    file.lock()?;
+    Ok(file)
+}
+
+/// What `rt version` says, or why it says nothing.
+fn toolchain() -> Result<String, String> {
+    match Command::new("rt").arg("version").output() {
+        Ok(said) if said.status.success() => Ok(String::from_utf8_lossy(&said.stdout).trim().replace('\n', " ")),
+        Ok(said) => {
+            let why = String::from_utf8_lossy(&said.stderr);
+            Err(format!("`rt version` fails ({}, {})", said.status, why.lines().last().unwrap_or_default()))
+        }
+        Err(e) if e.kind() == ErrorKind::NotFound => Err("`rt` is not on the PATH".to_string()),
+        Err(e) => Err(format!("`rt` cannot be run ({e})")),
+    }
+}
+
+/// Runs `rt` with what it says in a file: where crates are not proved that is pages. It holds the lock too, so that the lock outlives this script
+/// where that is ended first.
+fn rt(root: &Path, command: &str, name: &str, lock: &File, said: &Path) -> Result<(), String> {
+    let run = || {
+        let file = File::create(said)?;
+        let mut rt = Command::new("rt");
+        rt.args([command, name]).current_dir(root);
+        rt.stdin(lock.try_clone()?).stdout(file.try_clone()?).stderr(file).status()
+    };
+    let status = run().map_err(|e| format!("`rt {command} {name}` cannot be run ({e})"))?;
+    if status.success() {
+        return Ok(());
+    }
+    let text = fs::read(said).unwrap_or_default();
+    let text = String::from_utf8_lossy(&text);
+    let failed = text.lines().find_map(|line| line.strip_prefix("rt: FAILED: ")?.split(' ').next()).unwrap_or(name);
+    Err(format!(
+        "`rt {command} {name}` in {} fails ({status}) at {failed}: run it there, or read target/log/{failed}.out or, for all that it said, {}",
+        root.display(),
+        said.display()
+    ))
+}
+
+/// The sources, which cargo is told to watch.
+fn watched(root: &Path, name: &str) -> Result<Sources, String> {
+    let sources = Sources::read(root, name)?;
+    for path in &sources.paths {
         println!("cargo:rerun-if-changed={}", path.display());
     }
+    Ok(sources)
+}
+
+/// Where a library and its stamp stand, which cargo is told to watch too.
+fn watched_files(folder: &Path, name: &str) -> (PathBuf, PathBuf) {
+    let files = (folder.join(format!("lib{name}.a")), folder.join(format!("lib{name}.stamp")));
+    println!("cargo:rerun-if-changed={}\ncargo:rerun-if-changed={}", files.0.display(), files.1.display());
+    files
+}
+
+/// Empty where it is not set.
+fn variable(name: &str) -> String {
+    env::var_os(name).unwrap_or_default().to_string_lossy().into_owned()
 }

@@ -1,0 +1,103 @@
+//! What a library was built from, by digests of contents; times play no part.
+
+use super::sha256::sha256;
+use std::collections::BTreeMap;
+use std::path::{Path, PathBuf};
+use std::{fs, io};
+
+/// What decides on a library: `src`, `specs` and `proofs` of the crates that it rests on, and what crates.txt says of these crates.
+pub struct Sources {
+    pub digest: String,
+    /// crates.txt and the folders, for cargo to watch.
+    pub paths: Vec<PathBuf>,
+}
+
+impl Sources {
+    /// A copy of the package alone, as `cargo vendor` makes it, has none.
+    pub fn are_at(root: &Path, name: &str) -> bool {
+        root.join("crates.txt").is_file() && root.join("crates").join(name).join("src").is_dir()
+    }
+
+    pub fn read(root: &Path, name: &str) -> Result<Sources, String> {
+        let list = root.join("crates.txt");
+        let lines = fs::read_to_string(&list).map_err(|e| format!("{} cannot be read ({e})", list.display()))?;
+        let mut paths = vec![list];
+        let mut text = Vec::new();
+        for (name, libraries) in rests_on(&lines, name) {
+            text.extend(format!("{name}: {}\n", libraries.join(" ")).bytes());
+            for part in ["src", "specs", "proofs"] {
+                let folder = root.join("crates").join(name).join(part);
+                if folder.is_dir() {
+                    add(&mut text, root, &folder).map_err(|e| format!("{} cannot be read ({e})", folder.display()))?;
+                    paths.push(folder);
+                }
+            }
+        }
+        Ok(Sources { digest: sha256(&text), paths })
+    }
+}
+
+/// The crates that a crate rests on, itself among them, each with the libraries that it names. The toolchain's own have no line.
+fn rests_on<'a>(list: &'a str, name: &'a str) -> BTreeMap<&'a str, Vec<&'a str>> {
+    let lines: BTreeMap<&str, Vec<&str>> = list
+        .lines()
+        .filter_map(|line| line.split('#').next()?.split_once(':'))
+        .map(|(name, libraries)| (name.trim(), libraries.split_whitespace().collect()))
+        .collect();
+    let mut found = BTreeMap::new();
+    let mut open = vec![name];
+    while let Some(name) = open.pop() {
+        if let Some(libraries) = lines.get(name) {
+            if found.insert(name, libraries.clone()).is_none() {
+                open.extend(libraries);
+            }
+        }
+    }
+    found
+}
+
+/// Adds name, length and contents of each file at or below a path, by ascending name.
+fn add(text: &mut Vec<u8>, root: &Path, path: &Path) -> io::Result<()> {
+    if path.is_dir() {
+        let mut entries = fs::read_dir(path)?.map(|entry| Ok(entry?.path())).collect::<io::Result<Vec<_>>>()?;
+        entries.sort();
+        return entries.iter().try_for_each(|entry| add(text, root, entry));
+    }
+    // An editor's lock file is a link to nothing.
+    if path.is_file() {
+        let contents = fs::read(path)?;
+        text.extend(format!("{} {}\n", path.strip_prefix(root).unwrap_or(path).display(), contents.len()).bytes());
+        text.extend(contents);
+    }
+    Ok(())
+}
+
+/// What stands beside a library, in lines of a word and its value.
+#[derive(PartialEq)]
+pub struct Stamp {
+    /// Of the package whose build script had the library built.
+    pub version: String,
+    pub sources: String,
+    /// What `rt version` said.
+    pub toolchain: String,
+    pub library: String,
+}
+
+impl Stamp {
+    pub fn read(path: &Path) -> Option<Stamp> {
+        let text = fs::read_to_string(path).ok()?;
+        let value =
+            |word: &str| Some(text.lines().find_map(|line| line.strip_prefix(word)?.strip_prefix(' '))?.to_string());
+        Some(Stamp {
+            version: value("version")?,
+            sources: value("sources")?,
+            toolchain: value("toolchain")?,
+            library: value("library")?,
+        })
+    }
+
+    pub fn text(&self) -> String {
+        let Stamp { version, sources, toolchain, library } = self;
+        format!("version {version}\nsources {sources}\ntoolchain {toolchain}\nlibrary {library}\n")
+    }
+}
