@@ -21,6 +21,17 @@
 //! # Ok::<(), cpim::CpimError>(())
 //! ```
 //!
+//! # Building
+//!
+//! The first `cargo build` proves the library that this crate links, some minutes in which cargo says nothing. To see each crate as it is proved, run
+//! `rt staticlib cpim` in the repository's root before it. Later builds prove again only what was changed: they compare the contents of the sources with
+//! a stamp beside the library, in target/staticlib. Both can be kept and brought back.
+//!
+//! Without the Rattle toolchain (`rt`), set the variable `CPIM_LIB_DIR` to a folder with `libcpim.a` and `libcpim.stamp` from a machine that has it. They
+//! have to be of the same sources, or, where this package stands without the repository (vendored), of its version.
+//!
+//! The library is compiled for x86-64 Linux; the build script needs Rust 1.89.
+//!
 //! # Differences from `sip_core::cpim`
 //!
 //! - The unchecked doors (`new_unchecked`, `set_header_unchecked`) are left out: no message is held that is not valid.
