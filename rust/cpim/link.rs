@@ -13,24 +13,35 @@ use std::io::{self, ErrorKind};
 use std::path::{Path, PathBuf};
 use std::process::{exit, Command};
 
-/// Links lib`name`.a of target/staticlib, or of the folder that CPIM_LIB_DIR names. Where that cannot be, one sentence says what to do.
+/// A library's bytes, and the files and folders that decide whether they are still the right ones.
+struct Library {
+    bytes: Vec<u8>,
+    watched: Vec<PathBuf>,
+}
+
+/// Links lib`name`.a of target/staticlib, or of the folder that CPIM_LIB_DIR names. Where that cannot be, one sentence says what to do, and nothing
+/// else: cargo shows all that a script said that fails.
 pub fn link(name: &str) {
     // The bytes whose digest was compared are the ones that are linked, from a folder that nobody else writes or removes.
     let out = PathBuf::from(variable("OUT_DIR"));
-    let copied = library(name, &out).and_then(|bytes| {
+    let copied = library(name, &out).and_then(|library| {
         let copy = out.join(format!("lib{name}.a"));
-        fs::write(&copy, bytes).map_err(|e| format!("{} cannot be written ({e})", copy.display()))
+        fs::write(&copy, library.bytes).map_err(|e| format!("{} cannot be written ({e})", copy.display()))?;
+        Ok(library.watched)
     });
-    if let Err(why) = copied {
+    let watched = copied.unwrap_or_else(|why| {
         eprintln!("{name}: {why}.");
         exit(1);
+    });
+    println!("cargo:rerun-if-env-changed=CPIM_LIB_DIR");
+    for path in watched {
+        println!("cargo:rerun-if-changed={}", path.display());
     }
     println!("cargo:rustc-link-search=native={}", out.display());
     println!("cargo:rustc-link-lib=static={name}");
 }
 
-fn library(name: &str, out: &Path) -> Result<Vec<u8>, String> {
-    println!("cargo:rerun-if-env-changed=CPIM_LIB_DIR");
+fn library(name: &str, out: &Path) -> Result<Library, String> {
     let machine = format!("{} {}", variable("CARGO_CFG_TARGET_ARCH"), variable("CARGO_CFG_TARGET_OS"));
     if machine != "x86_64 linux" {
         return Err(format!(
@@ -41,22 +52,23 @@ fn library(name: &str, out: &Path) -> Result<Vec<u8>, String> {
     let root = root.canonicalize().map_err(|e| format!("{} cannot be read ({e})", root.display()))?;
     let elsewhere = PathBuf::from(variable("CPIM_LIB_DIR"));
     match (elsewhere.as_os_str().is_empty(), Sources::are_at(&root, name)) {
-        (false, true) => built_elsewhere(&elsewhere, name, Some(&watched(&root, name)?)),
+        (false, true) => built_elsewhere(&elsewhere, name, Some(Sources::read(&root, name)?)),
         (false, false) => built_elsewhere(&elsewhere, name, None),
         (true, true) => built_here(&root, name, out),
         (true, false) => Err(format!(
             "this copy of the package has no crates/ beside it, from which the library is proved: {}",
-            way_out(name)
+            way_out(name, &this_version())
         )),
     }
 }
 
 /// The library of target/staticlib. The lock is held before anything is compared, so whoever waited finds what the other has built.
-fn built_here(root: &Path, name: &str, out: &Path) -> Result<Vec<u8>, String> {
+fn built_here(root: &Path, name: &str, out: &Path) -> Result<Library, String> {
     let lock = lock(root);
-    let sources = watched(root, name)?;
+    let sources = Sources::read(root, name)?;
     let toolchain = toolchain();
-    let (library, stamp) = watched_files(&root.join("target/staticlib"), name);
+    let (library, stamp) = files(&root.join("target/staticlib"), name);
+    let watched = |bytes| Library { bytes, watched: [&sources.paths[..], &[library.clone(), stamp.clone()]].concat() };
     let stamp_of = |bytes: &[u8], toolchain: &str| Stamp {
         version: variable("CARGO_PKG_VERSION"),
         sources: sources.digest.clone(),
@@ -67,21 +79,21 @@ fn built_here(root: &Path, name: &str, out: &Path) -> Result<Vec<u8>, String> {
     if let (Ok(bytes), Some(said)) = (fs::read(&library), Stamp::read(&stamp)) {
         // Without `rt` the toolchain that built it can only be believed.
         if said == stamp_of(&bytes, toolchain.as_ref().unwrap_or(&said.toolchain)) {
-            return Ok(bytes);
+            return Ok(watched(bytes));
         }
     }
 
     let toolchain = toolchain.map_err(|why| {
         format!(
             "{why}, and target/staticlib has no library with a stamp of these sources: install the Rattle toolchain, or {}",
-            way_out(name)
+            way_out(name, THESE)
         )
     })?;
     let cannot_write = |e: io::Error| {
         format!(
             "the library has to be proved in {}, which cannot be written ({e}): build in a copy of it, or {}",
             root.display(),
-            way_out(name)
+            way_out(name, THESE)
         )
     };
     let lock = lock.map_err(cannot_write)?;
@@ -96,41 +108,53 @@ fn built_here(root: &Path, name: &str, out: &Path) -> Result<Vec<u8>, String> {
     }
     let bytes = fs::read(&library).map_err(|e| format!("{} cannot be read ({e})", library.display()))?;
     fs::write(&stamp, stamp_of(&bytes, &toolchain).text()).map_err(cannot_write)?;
-    Ok(bytes)
+    Ok(watched(bytes))
 }
 
 /// The library of a folder. Its stamp has to fit the sources, or the package's version where there are none.
-fn built_elsewhere(folder: &Path, name: &str, sources: Option<&Sources>) -> Result<Vec<u8>, String> {
+fn built_elsewhere(folder: &Path, name: &str, sources: Option<Sources>) -> Result<Library, String> {
     let fails = |why: String| Err(format!("CPIM_LIB_DIR is {}, {why}", folder.display()));
     if !folder.is_absolute() {
         return fails("and has to be a path from the root".to_string());
     }
-    let (library, stamp) = watched_files(folder, name);
-    let (Ok(bytes), Some(said)) = (fs::read(library), Stamp::read(&stamp)) else {
-        return fails(format!("where lib{name}.a or lib{name}.stamp is missing or cannot be read: {}", way_out(name)));
+    let (library, stamp) = files(folder, name);
+    let of = if sources.is_some() { THESE.to_string() } else { this_version() };
+    let (Ok(bytes), Some(said)) = (fs::read(&library), Stamp::read(&stamp)) else {
+        return fails(format!(
+            "where lib{name}.a or lib{name}.stamp is missing or cannot be read: {}",
+            way_out(name, &of)
+        ));
     };
     if said.library != sha256(&bytes) {
         return fails(format!("where lib{name}.stamp was not written for lib{name}.a: copy both anew"));
     }
-    let version = variable("CARGO_PKG_VERSION");
-    match sources {
-        Some(sources) if said.sources != sources.digest => {
-            fails(format!("whose lib{name}.a was built from other sources than these: {}", way_out(name)))
-        }
-        None if said.version != version => fails(format!(
-            "whose lib{name}.a belongs to version {}, and this package is version {version}: {}",
-            said.version,
-            way_out(name)
-        )),
-        _ => Ok(bytes),
+    let fits = match &sources {
+        Some(sources) => said.sources == sources.digest,
+        None => said.version == variable("CARGO_PKG_VERSION"),
+    };
+    if !fits {
+        return fails(format!("whose lib{name}.a was not built from {of}: {}", way_out(name, &of)));
     }
+    let mut watched = sources.map(|sources| sources.paths).unwrap_or_default();
+    watched.extend([library, stamp]);
+    Ok(Library { bytes, watched })
 }
 
-fn way_out(name: &str) -> String {
+const THESE: &str = "these sources";
+
+fn this_version() -> String {
+    format!("version {}", variable("CARGO_PKG_VERSION"))
+}
+
+fn way_out(name: &str, of: &str) -> String {
     format!(
-        "name in CPIM_LIB_DIR a folder with lib{name}.a and lib{name}.stamp as a build from the same sources leaves them in target/staticlib where \
-         `rt` is"
+        "set CPIM_LIB_DIR to a folder with the lib{name}.a and lib{name}.stamp that a build of {of} has left in target/staticlib on a machine with `rt`"
     )
+}
+
+/// Where a library and its stamp stand.
+fn files(folder: &Path, name: &str) -> (PathBuf, PathBuf) {
+    (folder.join(format!("lib{name}.a")), folder.join(format!("lib{name}.stamp")))
 }
 
 /// The lock that all hold who run `rt` in this repository (the Makefile by flock), because `rt` takes none. It is not in target/, which `rt ci`
@@ -176,22 +200,6 @@ fn rt(root: &Path, command: &str, name: &str, lock: &File, said: &Path) -> Resul
         root.display(),
         said.display()
     ))
-}
-
-/// The sources, which cargo is told to watch.
-fn watched(root: &Path, name: &str) -> Result<Sources, String> {
-    let sources = Sources::read(root, name)?;
-    for path in &sources.paths {
-        println!("cargo:rerun-if-changed={}", path.display());
-    }
-    Ok(sources)
-}
-
-/// Where a library and its stamp stand, which cargo is told to watch too.
-fn watched_files(folder: &Path, name: &str) -> (PathBuf, PathBuf) {
-    let files = (folder.join(format!("lib{name}.a")), folder.join(format!("lib{name}.stamp")));
-    println!("cargo:rerun-if-changed={}\ncargo:rerun-if-changed={}", files.0.display(), files.1.display());
-    files
 }
 
 /// Empty where it is not set.
