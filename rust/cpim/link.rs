@@ -99,9 +99,11 @@ fn built_here(root: &Path, name: &str, out: &Path) -> Result<Library, String> {
     let lock = lock.map_err(cannot_write)?;
     // From here until the new stamp is written the library has none.
     fs::create_dir_all(root.join("target/staticlib")).and_then(|()| fs::write(&stamp, "")).map_err(cannot_write)?;
-    // `rt check` proves on all processors, `rt staticlib` one crate after the other.
-    for command in ["check", "staticlib"] {
-        rt(root, command, name, &lock, &out.join("rt.out"))?;
+    // `rt check` proves on all processors, `rt staticlib` one crate after the other. Without names the former would prove everything.
+    let check = [&["check".to_string()], &sources.libraries[..]].concat();
+    let build = ["staticlib".to_string(), name.to_string()];
+    for words in [&check[..], &build].into_iter().filter(|words| words.len() > 1) {
+        rt(root, name, words, &lock, &out.join("rt.out"))?;
     }
     if Sources::read(root, name)?.digest != sources.digest {
         return Err("the sources were changed while they were proved: build again".to_string());
@@ -181,14 +183,14 @@ fn toolchain() -> Result<String, String> {
 
 /// Runs `rt` with what it says in a file: where crates are not proved that is pages. It holds the lock too, so that the lock outlives this script
 /// where that is ended first.
-fn rt(root: &Path, command: &str, name: &str, lock: &File, said: &Path) -> Result<(), String> {
+fn rt(root: &Path, name: &str, words: &[String], lock: &File, said: &Path) -> Result<(), String> {
     let run = || {
         let file = File::create(said)?;
         let mut rt = Command::new("rt");
-        rt.args([command, name]).current_dir(root);
+        rt.args(words).current_dir(root);
         rt.stdin(lock.try_clone()?).stdout(file.try_clone()?).stderr(file).status()
     };
-    let status = run().map_err(|e| format!("`rt {command} {name}` cannot be run ({e})"))?;
+    let status = run().map_err(|e| format!("`rt` cannot be run ({e})"))?;
     if status.success() {
         return Ok(());
     }
@@ -196,9 +198,8 @@ fn rt(root: &Path, command: &str, name: &str, lock: &File, said: &Path) -> Resul
     let text = String::from_utf8_lossy(&text);
     let failed = text.lines().find_map(|line| line.strip_prefix("rt: FAILED: ")?.split(' ').next()).unwrap_or(name);
     Err(format!(
-        "`rt {command} {name}` in {} fails ({status}) at {failed}: run it there, or read target/log/{failed}.out or, for all that it said, {}",
-        root.display(),
-        said.display()
+        "`rt` does not prove the library ({status}, at {failed}): run `rt staticlib {name}` in {}, or read target/log/{failed}.say there",
+        root.display()
     ))
 }
 

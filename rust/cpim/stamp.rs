@@ -8,6 +8,8 @@ use std::{fs, io};
 /// What decides on a library: `src`, `specs` and `proofs` of the crates that it rests on, and what crates.txt says of these crates.
 pub struct Sources {
     pub digest: String,
+    /// The crates that it names itself.
+    pub libraries: Vec<String>,
     /// crates.txt and the folders, for cargo to watch.
     pub paths: Vec<PathBuf>,
 }
@@ -23,7 +25,11 @@ impl Sources {
         let lines = fs::read_to_string(&list).map_err(|e| format!("{} cannot be read ({e})", list.display()))?;
         let mut paths = vec![list];
         let mut text = Vec::new();
-        for (name, libraries) in rests_on(&lines, name) {
+        let crates = rests_on(&lines, name);
+        let named = crates.get(name).into_iter().flatten();
+        let libraries =
+            named.filter(|library| crates.contains_key(*library)).map(|library| library.to_string()).collect();
+        for (name, libraries) in &crates {
             text.extend(format!("{name}: {}\n", libraries.join(" ")).bytes());
             for part in ["src", "specs", "proofs"] {
                 let folder = root.join("crates").join(name).join(part);
@@ -33,7 +39,7 @@ impl Sources {
                 }
             }
         }
-        Ok(Sources { digest: sha256(&text), paths })
+        Ok(Sources { digest: sha256(&text), libraries, paths })
     }
 }
 
