@@ -36,6 +36,8 @@ test: proofs
 proofs: rt
 	@$(RT) fmt --check
 	@.ci/refused-test
+	@.ci/contracts-test
+	@.ci/contracts
 	@.ci/gate-test
 	@said=$$(mktemp); trap 'rm -f "$$said"' EXIT; $(RT) ci | tee "$$said"; cp "$$said" target/ci.out
 	@[[ $$(tail -n 1 target/ci.out) == *' passed, 0 failed' ]]
