@@ -10,16 +10,23 @@ pub fn is_one_run() -> bool {
     env::args().nth(1).as_deref() == Some(ONE_RUN)
 }
 
-/// The lines that `runs` runs of this program print, each a process of its own: memory and code lie elsewhere each time.
-pub fn runs(runs: usize) -> Vec<String> {
-    let mut lines = Vec::new();
-    for _ in 0..runs {
-        let run = env::current_exe().and_then(|this| Command::new(this).arg(ONE_RUN).output()).expect("this program");
-        if !run.status.success() {
-            eprintln!("{}", String::from_utf8_lossy(&run.stderr));
-            exit(1);
-        }
-        lines.extend(String::from_utf8_lossy(&run.stdout).lines().map(String::from));
+/// The words that a run was told behind that it is one.
+pub fn told() -> Vec<String> {
+    env::args().skip(2).collect()
+}
+
+/// The lines that a run of this program prints, a process of its own that is told these words.
+pub fn run(words: &[&str]) -> Vec<String> {
+    let this = env::current_exe().expect("this program");
+    let run = Command::new(this).arg(ONE_RUN).args(words).output().expect("this program");
+    if !run.status.success() {
+        eprintln!("{}", String::from_utf8_lossy(&run.stderr));
+        exit(1);
     }
-    lines
+    String::from_utf8_lossy(&run.stdout).lines().map(String::from).collect()
+}
+
+/// The lines of so many runs: memory and code lie elsewhere each time.
+pub fn runs(runs: usize, words: &[&str]) -> Vec<String> {
+    (0..runs).flat_map(|_| run(words)).collect()
 }

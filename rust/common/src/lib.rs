@@ -2,13 +2,15 @@
 
 mod anew;
 mod clock;
+mod document;
 pub mod measure;
 mod random;
 mod words;
 mod work;
 
-pub use anew::{is_one_run, runs};
+pub use anew::{is_one_run, run, runs, told};
 pub use clock::{clock, median};
+pub use document::{range, store};
 pub use random::Random;
 pub use words::words;
 pub use work::in_parts;

@@ -1,8 +1,8 @@
 //! What else a gateway does with the crate, beside the source: the same lines for both sides.
 
-use crate::inputs::NOTICE;
 use crate::measure::{in_turn, side, Side};
 use crate::tables::GATEWAY;
+use ::workloads::inputs::NOTICE;
 use source::cpim as source;
 
 fn row(what: &str, sides: [Side<'_>; 2]) {

@@ -41,22 +41,26 @@ fn prose(random: &mut Random, script: Script, n: usize) -> String {
     text
 }
 
-/// A text whose body, once it is read, has `n` bytes and a blank line every 76 of them.
-pub fn text(script: Script, line_end: &str, n: usize) -> String {
+/// A body that has `n` bytes once it is read, and a blank line every 76 of them.
+fn body(script: Script, line_end: &str, n: usize) -> String {
     let mut random = Random::new(n as u64);
-    let blank = line_end.repeat(2);
-    let mut text =
-        ["Content-type: Message/CPIM", "From: <im:east@depots.example>", "Content-type: text/plain", ""].join(&blank);
+    let mut text = String::with_capacity(n);
     for from in (0..n).step_by(76) {
         let len = (n - from).min(76);
         if len < 76 {
             text.push_str(&prose(&mut random, script, len));
         } else {
             text.push_str(&prose(&mut random, script, 72));
-            text.push_str(&blank);
+            text.push_str(&line_end.repeat(2));
         }
     }
     text
+}
+
+/// A text with such a body.
+pub fn text(script: Script, line_end: &str, n: usize) -> String {
+    let sections = ["Content-type: Message/CPIM", "From: <im:east@depots.example>", "Content-type: text/plain", ""];
+    sections.join(&line_end.repeat(2)) + &body(script, line_end, n)
 }
 
 /// A notice of 379 bytes with five headers.
@@ -69,6 +73,46 @@ pub const NOTICE: &str = "Content-type: Message/CPIM\r\n\r\n\
     Content-type: text/plain; charset=utf-8\r\n\
     Content-ID: <1234@depots.example>\r\n\r\n\
     Found under seat 14 of the 815 from the harbour. It hangs in the hall.";
+
+/// The bytes of the notice before its body.
+const BEFORE: usize = 309;
+
+/// A notice of 315 bytes with four headers and no content header.
+pub fn plain_notice() -> String {
+    let less =
+        NOTICE.replace("NS: depot <urn:example:depot>\r\n", "").replace("Content-ID: <1234@depots.example>\r\n", "");
+    less + " B"
+}
+
+/// A notice of `n` bytes: its body has a blank line every 76 of them, or none.
+pub fn notice(n: usize, blank_lines: bool) -> String {
+    let n = n - BEFORE;
+    let body =
+        if blank_lines { body(Script::Ascii, "\r\n", n) } else { prose(&mut Random::new(n as u64), Script::Ascii, n) };
+    NOTICE[..BEFORE].to_string() + &body
+}
+
+/// A notice with a line more at the end of its headers (section 1) or of its content headers (2).
+pub fn with_line(notice: &str, section: usize, line: &str) -> String {
+    let blank = "\r\n\r\n";
+    let mut sections: Vec<&str> = notice.splitn(4, blank).collect();
+    let longer = [sections[section], line].join("\r\n");
+    sections[section] = &longer;
+    sections.join(blank)
+}
+
+/// A text of `n` bytes in which so many headers take as much as their limit allows; the body has the rest.
+pub fn filled(n: usize, headers: usize) -> String {
+    let ends = ["Content-type: Message/CPIM\r\n\r\n", "\r\nContent-type: text/plain\r\n\r\n"];
+    let room = n - ends[0].len() - ends[1].len();
+    let mut random = Random::new(n as u64);
+    let value = (room / headers - "Header-00: \r\n".len()).min(1_024);
+    let lines: String =
+        (0..headers).map(|k| format!("Header-{k:02}: {}\r\n", prose(&mut random, Script::Ascii, value))).collect();
+    let text = [ends[0], &lines, ends[1]].concat();
+    let rest = n - text.len();
+    text + &body(Script::Ascii, "\r\n", rest)
+}
 
 /// 50 headers with ten parameters each: names, value, and parameters.
 pub struct Many {

@@ -1,18 +1,25 @@
-//! What reading, writing, the calls and a lookup cost beside the source, as ratios. The program starts itself three times, prints the
+//! What reading, writing, the calls and a lookup cost beside the source, as ratios. The program starts itself several times, prints the
 //! tables and stores them in docs/BENCHMARKS.md.
 
 mod gateway;
-mod inputs;
 mod measure;
+mod parsing;
 mod tables;
 mod workloads;
 
+const RUNS: usize = 3;
+
 fn main() {
     if common::is_one_run() {
-        workloads::all();
-        return gateway::all();
+        return match common::told().first() {
+            Some(length) => parsing::all(length.parse().expect("a length")),
+            None => {
+                workloads::all();
+                gateway::all()
+            }
+        };
     }
-    let tables = tables::of(&common::runs(3));
-    println!("{tables}");
-    tables::store(&tables);
+    common::store("notices", &tables::notices(&common::runs(RUNS, &[])));
+    let by_length = parsing::LENGTHS.map(|n| common::runs(RUNS, &[&n.to_string()]));
+    common::store("parsing", &tables::parsing(&by_length.concat()));
 }

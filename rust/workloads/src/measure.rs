@@ -23,6 +23,17 @@ pub fn side<'a, S: 'a, T>(mut state: S, ready: impl Fn(&mut S) + 'a, call: impl 
     })
 }
 
+/// Calls of which each drops what it gives before the next, so that freeing is measured too.
+pub fn dropping<'a, T>(call: impl Fn() -> T + 'a) -> Side<'a> {
+    Box::new(move |times| {
+        let start = clock();
+        for _ in 0..times {
+            drop(black_box(call()));
+        }
+        (clock() - start) / times as f64
+    })
+}
+
 /// What one call of each side takes, in nanoseconds: medians of 21 measurements, in turn.
 pub fn in_turn<const N: usize>(mut sides: [Side<'_>; N]) -> [f64; N] {
     let times: Vec<usize> = sides

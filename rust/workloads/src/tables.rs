@@ -1,16 +1,13 @@
-//! The tables, in Markdown, and their place in docs/BENCHMARKS.md.
+//! The tables, in Markdown.
 
+use crate::parsing::LENGTHS;
 use std::fmt::Write;
-use std::fs;
-
-const FILE: &str = concat!(env!("CARGO_MANIFEST_DIR"), "/../../docs/BENCHMARKS.md");
-const BEGIN: &str = "<!-- written by `make bench` -->\n";
-const END: &str = "<!-- end -->\n";
 
 /// The tables, by the first field of a line.
 pub const GOALS: &str = "goals";
 pub const SIZES: &str = "sizes";
 pub const GATEWAY: &str = "gateway";
+pub const PARSING: &str = "parsing";
 
 /// A row of a table: its goal, and of each run what one call took by each side, in nanoseconds, the source the last.
 struct Row {
@@ -45,10 +42,7 @@ fn shown(ns: f64) -> String {
 impl Row {
     /// Lowest and highest ratio to the source; bold above the goal.
     fn ratio(&self, side: usize) -> String {
-        let ratios = || self.runs.iter().map(|run| run[side] / run[run.len() - 1]);
-        let (low, high) = (ratios().fold(f64::MAX, f64::min), ratios().fold(0.0, f64::max));
-        let mark = if high > self.goal { "**" } else { "" };
-        format!("{mark}{low:.2}–{high:.2}{mark}")
+        common::range(self.runs.iter().map(|run| run[side] / run[run.len() - 1]), self.goal)
     }
 
     /// The middle of the runs.
@@ -73,11 +67,42 @@ impl Row {
     }
 }
 
-pub fn of(lines: &[String]) -> String {
+fn rows(lines: &[String]) -> Vec<Row> {
     let mut rows = Vec::new();
     for line in lines {
         add(&mut rows, line).expect(line);
     }
+    rows
+}
+
+/// A column for each length; the number at the end of what a row is says which.
+pub fn parsing(lines: &[String]) -> String {
+    let rows = rows(lines);
+    let rows: Vec<(&str, &str, &Row)> =
+        rows.iter().filter_map(|row| row.what.rsplit_once(' ').map(|(what, length)| (what, length, row))).collect();
+    let mut out = String::from("| bytes of text | goal |");
+    LENGTHS.iter().for_each(|n| write!(out, " {} |", common::grouped(*n as u64)).unwrap());
+    write!(out, " crate, source at the longest |\n|---|---|{}---|\n", "---|".repeat(LENGTHS.len())).unwrap();
+    let mut seen = Vec::new();
+    for (what, _, row) in &rows {
+        if seen.contains(what) {
+            continue;
+        }
+        seen.push(what);
+        write!(out, "| {what} | {} |", row.goal).unwrap();
+        let mut times = String::new();
+        for n in LENGTHS {
+            let cell = rows.iter().find(|(other, length, _)| other == what && *length == n.to_string());
+            write!(out, " {} |", cell.map_or_else(String::new, |cell| cell.2.ratio(0))).unwrap();
+            times = cell.map_or(times, |cell| format!("{}, {}", cell.2.time(0), cell.2.time(1)));
+        }
+        writeln!(out, " {times} |").unwrap();
+    }
+    out
+}
+
+pub fn notices(lines: &[String]) -> String {
+    let rows = rows(lines);
     let table = |name: &'static str| rows.iter().filter(move |row| row.table == name);
     let mut out = String::from(
         "| workload | goal | lent stores | gateway's crate | lent stores, crate, source | the crate's own |\n",
@@ -98,12 +123,4 @@ pub fn of(lines: &[String]) -> String {
         writeln!(out, "| {} | {} | {}, {} |", row.what, row.ratio(0), row.time(0), row.time(1)).unwrap();
     }
     out
-}
-
-/// In the place of the tables that the document has.
-pub fn store(tables: &str) {
-    let text = fs::read_to_string(FILE).expect("docs/BENCHMARKS.md");
-    let (before, rest) = text.split_once(BEGIN).expect("where the tables begin");
-    let (_, behind) = rest.split_once(END).expect("where they end");
-    fs::write(FILE, format!("{before}{BEGIN}\n{tables}\n{END}{behind}")).expect("docs/BENCHMARKS.md");
 }

@@ -1,9 +1,9 @@
 //! The workloads. Each prints a line: its table, what it is, its goal, and what one call takes in nanoseconds by the lent stores, by the
 //! gateway's crate and by the source.
 
-use crate::inputs::{many, text, Many, Script, LARGE, NOTICE};
 use crate::measure::{in_turn, side, Side};
 use crate::tables;
+use ::workloads::inputs::{many, text, Many, Script, LARGE, NOTICE};
 use cpim::raw::{self, Record};
 use source::cpim as source;
 

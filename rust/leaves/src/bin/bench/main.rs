@@ -1,10 +1,12 @@
 //! What the leaves cost, as ratios to Rust's standard library or to the source. The program starts itself three times, each time
-//! anew with all rows, and prints the lowest and the highest ratio in Markdown; one above a goal is in bold.
+//! anew with all rows, prints the lowest and the highest ratio in Markdown, one above a goal in bold, and stores the tables in
+//! docs/BENCHMARKS.md.
 
 mod rows;
 mod texts;
 
 use rows::{Rows, NAMES, SIZES};
+use std::fmt::Write;
 
 const RUNS: usize = 3;
 
@@ -30,19 +32,6 @@ fn add(rows: &mut Vec<Row>, line: &str) -> Option<()> {
     Some(())
 }
 
-/// The lowest and the highest ratio.
-fn range(cell: &[(f64, f64)], goal: f64) -> String {
-    let ratios = || cell.iter().map(|(here, there)| here / there);
-    let (low, high) = (ratios().fold(f64::MAX, f64::min), ratios().fold(0.0, f64::max));
-    if cell.is_empty() {
-        String::new()
-    } else if high > goal {
-        format!("**{low:.2}–{high:.2}**")
-    } else {
-        format!("{low:.2}–{high:.2}")
-    }
-}
-
 /// Nanoseconds a byte at the greatest size of the row, here and there: the middle of the runs.
 fn cost(row: &Row) -> String {
     let Some((cell, size)) = row.cells.iter().zip(SIZES).rfind(|(cell, _)| !cell.is_empty()) else { return "".into() };
@@ -59,18 +48,22 @@ fn main() {
         return Rows::new().all();
     }
     let mut rows = Vec::new();
-    for line in common::runs(RUNS) {
+    for line in common::runs(RUNS, &[]) {
         add(&mut rows, &line).expect(&line);
     }
-    let mut table = "";
+    let (mut out, mut table) = (String::new(), "");
     for row in &rows {
         if row.table != table {
+            let blank = if table.is_empty() { "" } else { "\n" };
             table = &row.table;
-            println!("\n### {table}\n");
-            println!("| bytes | {} | ns a byte here, there |", NAMES.join(" | "));
-            println!("|---|{}---|", "---|".repeat(SIZES.len()));
+            writeln!(out, "{blank}### {table}\n").unwrap();
+            writeln!(out, "| bytes | goal | {} | ns a byte here, there |", NAMES.join(" | ")).unwrap();
+            writeln!(out, "|---|---|{}---|", "---|".repeat(SIZES.len())).unwrap();
         }
-        let cells: Vec<String> = row.cells.iter().map(|cell| range(cell, row.goal)).collect();
-        println!("| {} | {} | {} |", row.what, cells.join(" | "), cost(row));
+        let goal = if row.goal == f64::MAX { String::new() } else { row.goal.to_string() };
+        let ratios = |cell: &Vec<(f64, f64)>| common::range(cell.iter().map(|(here, there)| here / there), row.goal);
+        let cells: Vec<String> = row.cells.iter().map(ratios).collect();
+        writeln!(out, "| {} | {goal} | {} | {} |", row.what, cells.join(" | "), cost(row)).unwrap();
     }
+    common::store("leaves", &out);
 }

@@ -1,0 +1,27 @@
+//! The tables of docs/BENCHMARKS.md that programs write.
+
+use std::fs;
+
+const FILE: &str = concat!(env!("CARGO_MANIFEST_DIR"), "/../../docs/BENCHMARKS.md");
+const END: &str = "<!-- end -->\n";
+
+/// Prints tables in Markdown, and puts them where the document has those of this name.
+pub fn store(name: &str, tables: &str) {
+    println!("{tables}");
+    let begin = format!("<!-- {name}: written by `make bench` -->\n");
+    let text = fs::read_to_string(FILE).expect("docs/BENCHMARKS.md");
+    let (before, rest) = text.split_once(&begin).expect("where the tables begin");
+    let (_, behind) = rest.split_once(END).expect("where they end");
+    fs::write(FILE, format!("{before}{begin}\n{tables}\n{END}{behind}")).expect("docs/BENCHMARKS.md");
+}
+
+/// The lowest and the highest of the ratios; bold above the goal, and nothing where there is none.
+pub fn range(ratios: impl Iterator<Item = f64>, goal: f64) -> String {
+    let ratios: Vec<f64> = ratios.collect();
+    let (low, high) = ratios.iter().fold((f64::MAX, 0.0), |(low, high), r| (r.min(low), r.max(high)));
+    let mark = if high > goal { "**" } else { "" };
+    if ratios.is_empty() {
+        return String::new();
+    }
+    format!("{mark}{low:.2}–{high:.2}{mark}")
+}
