@@ -1,6 +1,6 @@
 //! What is refused: the source's errors, and the numbers of document 01's table.
 
-use crate::raw::{Answer, Numbers};
+use crate::raw::{Answer, HeadAnswer, Numbers};
 use std::fmt;
 
 pub(crate) const MAX_HEADER_NAME_LENGTH: usize = 128;
@@ -69,6 +69,13 @@ impl<R> Answer<R> {
             0 => Ok(self.record),
             number => Err(Refusal { number, carried: self.carried }),
         }
+    }
+}
+
+impl HeadAnswer {
+    /// Itself, or the refusal.
+    pub fn accepted(self) -> Result<Self, Refusal> {
+        Answer { number: self.number, carried: self.carried, record: self }.accepted()
     }
 }
 

@@ -20,6 +20,20 @@
 //! assert_eq!(refused.to_string(), "25: head or header store too short (256 bytes needed)");
 //! # Ok::<(), cpim::Refusal>(())
 //! ```
+//!
+//! The body of a text with CRLFCRLF is a part of it, so [`Message::parse_in_place`] leaves it there: no byte of it is copied. One with LFLF is
+//! written to a buffer, since its blank lines become CRLFCRLF.
+//!
+//! ```
+//! # use cpim::lent::Message;
+//! let (mut head, mut buffer) = ([0; 600], [0; 100]);
+//! let text = b"Content-type: Message/CPIM\r\n\r\nFrom: <im:a@b>\r\n\r\nContent-type: text/plain\r\n\r\nHi";
+//! let mut m = Message::parse_in_place(text, &mut head, &mut buffer)?;
+//! assert_eq!(m.body().as_ptr(), text[text.len() - 2..].as_ptr());
+//! m.set_header(b"Subject", b"Umbrella")?;
+//! assert_eq!((m.get_header("Subject"), m.body_as_str()), (Some("Umbrella"), Some("Hi")));
+//! # Ok::<(), cpim::Refusal>(())
+//! ```
 
 pub use crate::places::{Entries, Entry, Places, MOST};
 pub use crate::raw::{HeaderRecord, Record};
@@ -29,11 +43,12 @@ use crate::loss::Loss;
 use crate::raw::{self, text, Pair};
 use std::fmt;
 
-/// A message in lent stores.
-pub struct Message<'a> {
+/// A message in lent stores. Its body stands in a store that may be written, or, where `B` is `&[u8]`, as it was found by
+/// [`parse_in_place`](Message::parse_in_place).
+pub struct Message<'a, B = &'a mut [u8]> {
     record: Record,
     head: &'a mut [u8],
-    body: &'a mut [u8],
+    body: B,
 }
 
 /// The changing calls on one or two texts.
@@ -61,20 +76,57 @@ impl<'a> Message<'a> {
 
     /// What stores hold by a record that [`record`](Self::record) gave before. They are judged in full: 25 carrying 0 where they hold nothing.
     pub fn held(record: Record, head: &'a mut [u8], body: &'a mut [u8]) -> Result<Self, Refusal> {
-        match raw::loss(record, head, body).clause {
-            9 => Err(Refusal { number: 25, carried: 0 }),
-            _ => Ok(Message { record, head, body }),
-        }
-    }
-
-    /// What to keep beside the stores.
-    pub fn record(&self) -> Record {
-        self.record
+        judged(record, head, body)?;
+        Ok(Message { record, head, body })
     }
 
     pub fn set_body(&mut self, body: &[u8]) -> Result<(), Refusal> {
         self.record = raw::set_body(self.record, self.head, self.body, body).accepted()?;
         Ok(())
+    }
+
+    /// Runs a script of changing calls (crates/calls_script/specs/Script.antt) up to its first place where no whole call stands.
+    pub fn run(&mut self, script: &[u8]) {
+        self.record = raw::run(script, self.record, self.head, self.body);
+    }
+}
+
+impl<'a> Message<'a, &'a [u8]> {
+    /// Reads a text and leaves the body in it; where the text has LFLF for its separator the body is written to the buffer's start, and 26 carries
+    /// its length where the buffer is too short. A refused reading leaves zeros in the head store.
+    pub fn parse_in_place(text: &'a [u8], head: &'a mut [u8], buffer: &'a mut [u8]) -> Result<Self, Refusal> {
+        let answer = raw::parse_head(text, head).accepted()?;
+        let body = match answer.body_in(text) {
+            Some(body) => body,
+            None => match raw::read_body(text, buffer).accepted() {
+                Ok(len) => &buffer[..len],
+                Err(refusal) => {
+                    head.fill(0);
+                    return Err(refusal);
+                }
+            },
+        };
+        Ok(Message { record: answer.record, head, body })
+    }
+
+    /// As [`held`](Message::held), with a body that is not to be written.
+    pub fn held_in_place(record: Record, head: &'a mut [u8], body: &'a [u8]) -> Result<Self, Refusal> {
+        judged(record, head, body)?;
+        Ok(Message { record, head, body })
+    }
+}
+
+fn judged(record: Record, head: &[u8], body: &[u8]) -> Result<(), Refusal> {
+    match raw::loss(record, head, body).clause {
+        9 => Err(Refusal { number: 25, carried: 0 }),
+        _ => Ok(()),
+    }
+}
+
+impl<B: AsRef<[u8]>> Message<'_, B> {
+    /// What to keep beside the stores.
+    pub fn record(&self) -> Record {
+        self.record
     }
 
     pub fn add_header_obj(&mut self, name: &[u8], header: &Header<'_>) -> Result<(), Refusal> {
@@ -97,24 +149,19 @@ impl<'a> Message<'a> {
         with_require(feature)
     }
 
-    /// Runs a script of changing calls (crates/calls_script/specs/Script.antt) up to its first place where no whole call stands.
-    pub fn run(&mut self, script: &[u8]) {
-        self.record = raw::run(script, self.record, self.head, self.body);
-    }
-
     /// Writes the message's text to the start of `out` and gives its length.
     pub fn write(&self, out: &mut [u8]) -> Result<usize, Refusal> {
-        raw::to_string(self.record, self.head, self.body, out).accepted()
+        raw::to_string(self.record, self.head, self.body.as_ref(), out).accepted()
     }
 
     /// Whether reading the message's text gives this very message.
     pub fn comes_back(&self) -> bool {
-        raw::comes_back(self.record, self.head, self.body)
+        raw::comes_back(self.record, self.head, self.body.as_ref())
     }
 
     /// What is lost first where it does not.
     pub fn loss(&self) -> Option<Loss<'_>> {
-        Loss::of(self.record, self.head, self.body)
+        Loss::of(self.record, self.head, self.body.as_ref())
     }
 
     pub fn content_type(&self) -> &str {
@@ -122,12 +169,13 @@ impl<'a> Message<'a> {
     }
 
     pub fn body(&self) -> &[u8] {
-        raw::body(self.record, self.head, self.body).of(self.body).expect("the body of what is held")
+        let body = self.body.as_ref();
+        raw::body(self.record, self.head, body).of(body).expect("the body of what is held")
     }
 
     /// The body as a text, if it is one.
     pub fn body_as_str(&self) -> Option<&str> {
-        raw::body_as_str(self.record, self.head, self.body).then(|| text(self.body()))
+        raw::body_as_str(self.record, self.head, self.body.as_ref()).then(|| text(self.body()))
     }
 
     /// Where its headers and content headers stand; `rows` of [`MOST`] numbers are always enough. 26 carries the bytes needed, 8 for
@@ -201,7 +249,7 @@ pub fn address(value: &str) -> Option<&str> {
     raw::address(value.as_bytes()).of(value.as_bytes()).map(text)
 }
 
-impl fmt::Debug for Message<'_> {
+impl<B> fmt::Debug for Message<'_, B> {
     fn fmt(&self, f: &mut fmt::Formatter<'_>) -> fmt::Result {
         f.debug_struct("Message").field("record", &self.record).finish_non_exhaustive()
     }

@@ -11,7 +11,7 @@ use std::fmt;
 use std::sync::OnceLock;
 
 /// The head store that a new message starts with: room for some headers.
-const FIRST_HEAD: usize = 1_024;
+const FIRST_HEAD: usize = 512;
 /// No message needs more.
 pub(crate) const MOST_HEAD: usize = 250_016;
 
@@ -186,15 +186,13 @@ impl CpimMessage {
     pub fn to_string(&self) -> Result<String, CpimError> {
         // A header or content header is written in fewer bytes than it is stored in, unless much of it is escaped; the rest is 50 bytes, the
         // type and the body, unless that is not UTF-8. Where more is needed, 26 says how much.
-        let mut out =
-            vec![0; 50 + self.record.typelen + self.record.headerlen + self.record.contentlen + self.body.len()];
+        let m = self.record;
+        let mut room = 50 + m.typelen + m.headerlen + m.contentlen + m.bodylen;
         loop {
-            match raw::to_string(self.record, &self.head, &self.body, &mut out).accepted() {
-                Ok(len) => {
-                    out.truncate(len);
-                    return Ok(raw::written(out));
-                }
-                Err(Refusal { number: 26, carried }) if carried as usize > out.len() => out = vec![0; carried as usize],
+            let (answer, text) = raw::to_new_string(m, &self.head, &self.body, room);
+            match answer.accepted() {
+                Ok(_) => return Ok(text),
+                Err(Refusal { number: 26, carried }) if carried as usize > room => room = carried as usize,
                 Err(refusal) => return Err(refusal.into()),
             }
         }

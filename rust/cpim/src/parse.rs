@@ -1,39 +1,73 @@
-//! Reading a text into stores that are made for it.
+//! Reading a text into stores that are made for it, each as long as it has to be.
 
 use crate::error::{CpimError, Refusal, MAX_BODY_SIZE, MAX_PARSE_SIZE};
 use crate::message::{CpimMessage, MOST_HEAD};
-use crate::raw;
+use crate::raw::{joined_body, parse_head_into, parse_into};
+use std::mem::MaybeUninit;
 
-/// Room to spare up to this is not given back.
-const SPARE: usize = 4_096;
-
-/// Gives back the room of a store of which far less is used than was lent.
-fn shrink(store: &mut Vec<u8>, used: usize) {
-    if store.capacity() - used > used + SPARE {
-        store.truncate(used);
-        store.shrink_to_fit();
-    }
-}
+/// The head store that is lent first, on the stack: more than all but a few messages need.
+const FIRST: usize = 24_576;
+/// How far the first line end is looked for.
+const FIRST_LINE: usize = 256;
 
 /// Parses a CPIM message from a string.
 pub fn parse_cpim(input: &str) -> Result<CpimMessage, CpimError> {
-    // Room for any text of that length: an entry takes 14 bytes of the head store more than of the text, where it has 3 or more (`;a=`, or
-    // `a:` and a line end); a body that is joined takes 4 bytes for each LFLF. So neither 25 nor 26 comes. A text that is too long is refused
-    // before it is looked at, and needs none.
-    let len = if input.len() > MAX_PARSE_SIZE { 0 } else { input.len() };
-    let mut head = vec![0; MOST_HEAD.min(256 + 6 * len)];
-    let mut body = vec![0; MAX_BODY_SIZE.min(2 * len)];
+    let text = input.as_bytes();
+    let mut room = [MaybeUninit::uninit(); FIRST];
+    // No text needs more than this: an entry takes 14 bytes of the head store more than of the text, where it has 3 or more (`;a=`, or `a:` and
+    // a line end). A refused reading zeroes what is lent.
+    let lent = FIRST.min(256 + 6 * text.len());
+    match read(text, &mut room[..lent]) {
+        Err(Refusal { number: 25, carried }) => read_again(text, carried).map_err(CpimError::from),
+        answer => answer.map_err(CpimError::from),
+    }
+}
+
+/// By longer stores; 25 carries what the line needs that has no room.
+#[cold]
+fn read_again(text: &[u8], needed: u64) -> Result<CpimMessage, Refusal> {
+    let (mut len, mut needed) = (FIRST, needed);
     loop {
-        match raw::parse(input.as_bytes(), &mut head, &mut body).accepted() {
+        // Each time the text is read from its start. Four times the length makes that three readings at most.
+        len = (4 * len).max(needed as usize).min(MOST_HEAD);
+        match read(text, &mut Vec::with_capacity(len).spare_capacity_mut()[..len]) {
+            Err(Refusal { number: 25, carried }) if len < MOST_HEAD => needed = carried,
+            answer => return answer,
+        }
+    }
+}
+
+/// A text in a head store. A body under CRLFCRLF is copied from the text; one under LFLF is written by the reading.
+fn read(text: &[u8], head: &mut [MaybeUninit<u8>]) -> Result<CpimMessage, Refusal> {
+    if begins_with_lf_line(text) {
+        return read_joined(text, head);
+    }
+    let (answer, head) = parse_head_into(text, head);
+    let record = answer.accepted()?.record;
+    let body = answer.body_in(text).map_or_else(|| joined_body(text, record.bodylen), <[u8]>::to_vec);
+    Ok(CpimMessage::of(record, head.to_vec(), body))
+}
+
+/// Whether the first line end is a bare LF. That only says which way is the faster one.
+fn begins_with_lf_line(text: &[u8]) -> bool {
+    let end = text.iter().take(FIRST_LINE).position(|b| *b == b'\n');
+    end.is_some_and(|end| end == 0 || text[end - 1] != b'\r')
+}
+
+/// With a body store, so that the text is judged once.
+fn read_joined(text: &[u8], head: &mut [MaybeUninit<u8>]) -> Result<CpimMessage, Refusal> {
+    // Each blank line becomes two bytes longer: this is room for one in each 32 bytes. Where there are more, 26 says what is needed. A text that
+    // is too long is refused before it is looked at.
+    let mut room = if text.len() > MAX_PARSE_SIZE { 0 } else { MAX_BODY_SIZE.min(text.len() + text.len() / 16) };
+    loop {
+        let (answer, head, mut body) = parse_into(text, head, room);
+        match answer.accepted() {
             Ok(record) => {
-                shrink(&mut head, record.need());
-                shrink(&mut body, record.bodylen);
-                body.truncate(record.bodylen);
-                return Ok(CpimMessage::of(record, head, body));
+                body.shrink_to_fit();
+                return Ok(CpimMessage::of(record, head.to_vec(), body));
             }
-            Err(Refusal { number: 25, carried }) if carried as usize > head.len() => head.resize(carried as usize, 0),
-            Err(Refusal { number: 26, carried }) if carried as usize > body.len() => body.resize(carried as usize, 0),
-            Err(refusal) => return Err(refusal.into()),
+            Err(Refusal { number: 26, carried }) if carried as usize > room => room = carried as usize,
+            Err(refusal) => return Err(refusal),
         }
     }
 }

@@ -4,8 +4,10 @@
 #![allow(unsafe_code)]
 
 mod lookups;
+mod unwritten;
 
 pub use lookups::*;
+pub(crate) use unwritten::*;
 
 /// A message in its stores: the length of its type; how many headers and the bytes that they take in the head store; the same of
 /// its content headers; the length of its body. The empty record (all 0) holds nothing.
@@ -64,6 +66,25 @@ pub struct Answer<R> {
     pub record: R,
 }
 
+/// What a reading gives that leaves the body where it stands: the two numbers, the record, and where that is.
+#[repr(C)]
+#[derive(Clone, Copy, Debug, PartialEq, Eq)]
+pub struct HeadAnswer {
+    pub number: u64,
+    pub carried: u64,
+    pub record: Record,
+    /// Whether the body is a part of the text: its end, from `start` on. If not, [`read_body`] writes its `record.bodylen` bytes.
+    pub in_text: bool,
+    pub start: usize,
+}
+
+impl HeadAnswer {
+    /// The body, where it is a part of the text that was read.
+    pub fn body_in(self, text: &[u8]) -> Option<&[u8]> {
+        self.in_text.then(|| &text[self.start..][..self.record.bodylen])
+    }
+}
+
 /// The clause of demand 3 that fails first, 0 where none does, 9 where nothing is held; and for which entry.
 #[repr(C)]
 #[derive(Clone, Copy, Debug, PartialEq, Eq)]
@@ -119,6 +140,7 @@ extern "C" {
         _: usize,
     ) -> Answer<HeaderRecord>;
     fn cpim_parse(text: *const u8, _: usize, head: *mut u8, _: usize, body: *mut u8, _: usize) -> Answer<Record>;
+    fn cpim_parse_head(text: *const u8, _: usize, head: *mut u8, _: usize) -> HeadAnswer;
     fn cpim_read_body(text: *const u8, _: usize, buffer: *mut u8, _: usize) -> Answer<usize>;
     fn cpim_to_string(
         m: Record,
@@ -198,6 +220,12 @@ pub fn parse(text: &[u8], head: &mut [u8], body: &mut [u8]) -> Answer<Record> {
     unsafe { cpim_parse(t.as_ptr(), t.len(), h.as_mut_ptr(), h.len(), b.as_mut_ptr(), b.len()) }
 }
 
+/// `parse_cpim` without a body store: record and head store as [`parse`] leaves them, the body where it stands. The same refusals in the same
+/// order, but never 26; a refused reading leaves zeros in the store.
+pub fn parse_head(text: &[u8], head: &mut [u8]) -> HeadAnswer {
+    unsafe { cpim_parse_head(text.as_ptr(), text.len(), head.as_mut_ptr(), head.len()) }
+}
+
 /// The length of a text's body; under LFLF the body is written to the buffer's start.
 pub fn read_body(text: &[u8], buffer: &mut [u8]) -> Answer<usize> {
     unsafe { cpim_read_body(text.as_ptr(), text.len(), buffer.as_mut_ptr(), buffer.len()) }
@@ -233,11 +261,4 @@ pub(crate) fn text(bytes: &[u8]) -> &str {
     } else {
         std::str::from_utf8(bytes).expect("what is held is UTF-8")
     }
-}
-
-/// What [`to_string`] wrote, no more and no less.
-pub(crate) fn written(text: Vec<u8>) -> String {
-    // SAFETY: the text of a message is UTF-8, whatever its body: proved as `write-utf8` in crates/format/proofs/Texts/WriteText.antt. To test
-    // a text beyond ASCII once more would take as long as to write it.
-    unsafe { String::from_utf8_unchecked(text) }
 }

@@ -29,8 +29,19 @@ static ALLOCATOR: Counting = Counting;
 const TEXT: &[u8] =
     b"Content-type: Message/CPIM\n\nFrom;a=b: <im:a@b>\n\nContent-type: text/plain\nContent-ID: 7\n\nHi\n\nHo";
 
+const CRLF: &[u8] = b"Content-type: Message/CPIM\r\n\r\nFrom: <im:a@b>\r\n\r\nContent-type: text/plain\r\n\r\nHi";
+
 fn everything() -> Result<usize, Refusal> {
     let (mut head, mut body, mut store, mut out) = ([0; 2_000], [0; 100], [0; 200], [0; 2_000]);
+    let mut placed = Message::parse_in_place(TEXT, &mut head, &mut body)?;
+    placed.set_header(b"To", b"a")?;
+    let joined = b"Hi\r\n\r\nHo";
+    assert_eq!(placed.body(), joined);
+    let record = placed.record();
+    assert_eq!(Message::held_in_place(record, &mut head, &body)?.body(), joined);
+    let crlf = Message::parse_in_place(CRLF, &mut head, &mut [])?.body().len();
+    let short = Message::parse_in_place(TEXT, &mut head, &mut [0; 7]).err();
+    assert_eq!((crlf, short), (2, Some(Refusal { number: 26, carried: 8 })));
     let mut h = Header::new(b"Umbrella", &mut store)?;
     h.with_param(b"depot", b"north")?;
     let mut seen = h.value().len() + h.params().map(|(_, value)| value.len()).sum::<usize>();

@@ -158,3 +158,53 @@ fn a_body_without_a_store() {
     assert_eq!(lent::body_of(lf.as_bytes(), &mut [0; 5]), Err(Refusal { number: 26, carried: 6 }));
     assert_eq!(lent::body_of(b"a", &mut []), Err(Refusal { number: 2, carried: 0 }));
 }
+
+#[test]
+fn a_body_in_its_place() {
+    let crlf = "message/cpim\r\n\r\na:b\r\n\r\nContent-type: c\r\n\r\nx\r\n\r\ny";
+    let lf = crlf.replace('\r', "");
+    let (mut head, mut store, mut body, mut buffer) = ([1; 400], [2; 400], [3; 9], [4; 9]);
+    for text in [crlf, &lf] {
+        let m = Message::parse(text.as_bytes(), &mut head, &mut body).unwrap();
+        let mut placed = Message::parse_in_place(text.as_bytes(), &mut store, &mut buffer).unwrap();
+        assert_eq!((placed.record(), placed.body()), (m.record(), m.body()));
+        assert_eq!((placed.get_header("a"), placed.content_type()), (Some("b"), "c"));
+        placed.set_header(b"d", b"e").unwrap();
+        let mut out = [0; 200];
+        let len = placed.write(&mut out).unwrap();
+        assert!(out[..len].ends_with(b"a: b\r\nd: e\r\n\r\nContent-type: c\r\n\r\nx\r\n\r\ny"));
+        assert!(placed.comes_back());
+        assert_eq!(buffer == [4; 9], text == crlf, "a part of the text is copied nowhere");
+    }
+    let short = Message::parse_in_place(lf.as_bytes(), &mut store, &mut buffer[..5]).err();
+    assert_eq!((short, store), (Some(Refusal { number: 26, carried: 6 }), [0; 400]));
+    let refused = Message::parse_in_place(b"a", &mut head, &mut buffer).err();
+    assert_eq!((refused, head), (Some(Refusal { number: 2, carried: 0 }), [0; 400]));
+}
+
+/// Headers with ten parameters each, all of one length, and what the head store takes for them.
+fn many(headers: usize, value: usize) -> (String, usize) {
+    let params: String = (0..10).map(|k| format!(";p{k}={}", "q".repeat(256))).collect();
+    let line = |k: usize| format!("h{k:02}{params}: {}\r\n", "v".repeat(value));
+    let lines: String = (0..headers).map(line).collect();
+    let text = format!("message/cpim\r\n\r\n{lines}\r\nContent-type: a\r\n\r\nHi");
+    (text, 256 + headers * (16 + 3 + value + 10 * (16 + 2 + 256)))
+}
+
+#[test]
+fn a_head_of_any_length() {
+    for (headers, value) in [(1, 1), (6, 1_000), (7, 1_000), (25, 1_024), (26, 1_024), (27, 1_000), (50, 1_024)] {
+        let (text, need) = many(headers, value);
+        let m = parse_cpim(&text).unwrap();
+        assert_eq!((m.headers().len(), m.body()), (headers, &b"Hi"[..]), "{need}");
+        let (mut head, mut body) = (vec![0; need], [0; 2]);
+        let lent = Message::parse(text.as_bytes(), &mut head, &mut body).unwrap();
+        assert_eq!(lent.get_header("h00").map(str::len), m.get_header("h00").map(str::len));
+        assert!(Message::parse(text.as_bytes(), &mut head[..need - 1], &mut body).is_err());
+        let late = text.replace("Content-type: a", "Content-type: \u{7f}");
+        assert_eq!(parse_cpim(&late).unwrap_err().number(), 19, "{need}");
+        assert_eq!(parse_cpim(&text.replace('\r', "")).unwrap(), m);
+    }
+    let (text, _) = many(51, 1_024);
+    assert_eq!(parse_cpim(&text), Err(CpimError::TooManyHeaders { max: 50, actual: 51 }));
+}

@@ -1,0 +1,70 @@
+//! The functions that write to room which holds nothing yet: what is made for a message is not zeroed first.
+//!
+//! Each contract says what the first bytes of a store are afterwards, whatever they were before, so these are written: for a message `Holds` in
+//! crates/format/specs/Layout.antt, of which `laid` speaks of all the bytes that are needed, the zeros behind the type among them.
+
+use super::{cpim_parse, cpim_parse_head, cpim_read_body, cpim_to_string, Answer, HeadAnswer, Record};
+use std::mem::MaybeUninit;
+
+/// [`parse_head`](super::parse_head), and what it wrote: the bytes of the head store that the message takes.
+pub(crate) fn parse_head_into<'a>(text: &[u8], head: &'a mut [MaybeUninit<u8>]) -> (HeadAnswer, &'a [u8]) {
+    // SAFETY: as in raw.rs.
+    let answer = unsafe { cpim_parse_head(text.as_ptr(), text.len(), head.as_mut_ptr().cast(), head.len()) };
+    let need = if answer.number == 0 { answer.record.need() } else { 0 };
+    // SAFETY: `laid` in `Holds`.
+    (answer, unsafe { written(head, need) })
+}
+
+/// [`parse`](super::parse) with a body store of so many bytes, and what it wrote: the bytes of the head store that the message takes, and the
+/// body.
+pub(crate) fn parse_into<'a>(
+    text: &[u8],
+    head: &'a mut [MaybeUninit<u8>],
+    room: usize,
+) -> (Answer<Record>, &'a [u8], Vec<u8>) {
+    let mut body = Vec::with_capacity(room);
+    let (t, h) = (text, head);
+    // SAFETY: as in raw.rs.
+    let answer = unsafe { cpim_parse(t.as_ptr(), t.len(), h.as_mut_ptr().cast(), h.len(), body.as_mut_ptr(), room) };
+    let (need, len) = if answer.number == 0 { (answer.record.need(), answer.record.bodylen.min(room)) } else { (0, 0) };
+    // SAFETY: `laid` and `stored` in `Holds`.
+    unsafe {
+        body.set_len(len);
+        (answer, written(h, need), body)
+    }
+}
+
+/// # Safety
+///
+/// The first `len` bytes were written.
+unsafe fn written(store: &[MaybeUninit<u8>], len: usize) -> &[u8] {
+    let written = &store[..len];
+    // SAFETY: as the caller says.
+    unsafe { std::slice::from_raw_parts(written.as_ptr().cast(), len) }
+}
+
+/// The body of a text under LFLF, by the length that [`parse_head`](super::parse_head) gave.
+pub(crate) fn joined_body(text: &[u8], len: usize) -> Vec<u8> {
+    let mut body = Vec::with_capacity(len);
+    // SAFETY: as in raw.rs.
+    let answer = unsafe { cpim_read_body(text.as_ptr(), text.len(), body.as_mut_ptr(), len) };
+    assert_eq!((answer.number, answer.record), (0, len), "the body of a text that was read");
+    // SAFETY: there is room for `len` bytes, and the body is `len` bytes long and was written (`bufferAfter` in crates/format/specs/LookingUp.antt).
+    unsafe { body.set_len(len) };
+    body
+}
+
+/// [`to_string`](super::to_string) with room for so many bytes; the text where it has that room.
+pub(crate) fn to_new_string(m: Record, head: &[u8], body: &[u8], room: usize) -> (Answer<usize>, String) {
+    let mut out = Vec::with_capacity(room);
+    let (h, b) = (head, body);
+    // SAFETY: as in raw.rs.
+    let answer = unsafe { cpim_to_string(m, h.as_ptr(), h.len(), b.as_ptr(), b.len(), out.as_mut_ptr(), room) };
+    let len = if answer.number == 0 { answer.record.min(room) } else { 0 };
+    // SAFETY: the text was written to the start (`Wrote` in crates/format/specs/Lending.antt), and it is UTF-8, whatever the body: proved as
+    // `write-utf8` in crates/format/proofs/Texts/WriteText.antt. To test a text beyond ASCII once more would take as long as to write it.
+    (answer, unsafe {
+        out.set_len(len);
+        String::from_utf8_unchecked(out)
+    })
+}
