@@ -40,7 +40,7 @@ pub const BY_LOOKUPS: &[&str] = &[
     "places",
     "address",
 ];
-pub const BY_TEXTS: &[&str] = &["parse", "read_body", "body_part", "to_string"];
+pub const BY_TEXTS: &[&str] = &["parse", "parse_head", "read_body", "body_part", "to_string"];
 
 const SOURCES: [&str; 2] = [
     include_str!(concat!(env!("CARGO_MANIFEST_DIR"), "/../../crates/cpim/src/lib.rt")),

@@ -79,9 +79,11 @@ impl Compared {
         let lent = self.lend(text);
         let text = lent.bytes(text.len());
         let reading = Reading::of(text);
-        for (head, body) in self.lengths(&reading, text.len() > MANY) {
-            self.read(text, &reading, head, body);
+        let lengths = self.lengths(&reading, text.len() > MANY);
+        for (head, body) in &lengths {
+            self.read(text, &reading, *head, *body);
         }
+        self.read_heads(text, &reading, &lengths);
         let len = reading.body.as_ref().map_or(0, Vec::len);
         for buffer in [len, len.saturating_sub(1), len + self.random.below(30), 0].into_iter().take(few(text)) {
             self.read_body(text, &reading, buffer);
@@ -102,9 +104,11 @@ impl Compared {
         let need = reading.peaks.last().copied().unwrap_or(256);
         let body = reading.body.as_ref().map_or(0, Vec::len);
         let lengths = [(need, body), (need - 1, body), (need + self.random.below(9), body + 5)];
-        for (head, body) in lengths.into_iter().take(few(text)) {
-            self.read(text, &reading, head, body);
+        let lengths = &lengths[..few(text).min(3)];
+        for (head, body) in lengths {
+            self.read(text, &reading, *head, *body);
         }
+        self.read_heads(text, &reading, lengths);
     }
 
     /// A text with watched bytes around it.

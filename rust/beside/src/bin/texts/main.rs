@@ -3,6 +3,7 @@
 
 mod compared;
 mod expected;
+mod heads;
 mod limits;
 mod long;
 mod pattern;
@@ -74,14 +75,21 @@ fn main() {
         seen.map(|(k, n)| format!("{k}: {}", grouped(*n))).collect::<Vec<_>>().join(", ")
     };
     println!("Read: {} accepted; by refusal: {}.", grouped(all.read[0]), listed(&all.read));
+    let [in_text, joined] = all.left.map(grouped);
+    println!(
+        "Read, the body left in its place: {in_text} in the text, {joined} to be joined; by refusal: {}.",
+        listed(&all.heads)
+    );
     println!("Bodies without a store: {} found; by refusal: {}.", grouped(all.bodies[0]), listed(&all.bodies));
     let [written, nothing, short] = all.written.map(grouped);
     println!("Written: {written}; 25 carrying 0: {nothing}, 26: {short}.");
     let bodies = [0, 1, 2, 23, 24, 26].map(|k| all.bodies[k]);
     let [in_text, in_buffer, none] = all.parts.map(grouped);
     println!("The second call for the body: {in_text} in the text, {in_buffer} in the buffer, {none} without a body.");
-    if [&all.read[..], &bodies, &all.written, &all.parts].iter().any(|answers| answers.contains(&0)) {
-        eprintln!("an answer was never seen: {:?}, {:?}, {:?}", all.read, all.bodies, all.written);
+    // 26 is no answer of the reading that leaves the body in its place.
+    let heads = &all.heads[..26];
+    if [&all.read[..], heads, &all.left, &bodies, &all.written, &all.parts].iter().any(|answers| answers.contains(&0)) {
+        eprintln!("an answer was never seen: {:?}, {heads:?}, {:?}, {:?}", all.read, all.bodies, all.written);
         exit(1);
     }
     all_compared(BY_TEXTS, |k| all.by_function()[k]);

@@ -2,11 +2,14 @@
 
 use beside::exports::BY_TEXTS;
 
-/// How often each answer was given by reading and by the body without a store: accepted (0) and each number; by writing: accepted,
-/// 25 carrying 0, 26; by the second call for the body: in the text, in the buffer, of a text without a body.
+/// How often each answer was given by reading, by reading that leaves the body in its place and by the body without a store: accepted (0) and
+/// each number; by writing: accepted, 25 carrying 0, 26; by the second call for the body: in the text, in the buffer, of a text without a body.
+/// And how often a body was left in the text, or to be joined.
 #[derive(Clone, Default)]
 pub struct Tally {
     pub read: [u64; 27],
+    pub heads: [u64; 27],
+    pub left: [u64; 2],
     pub bodies: [u64; 27],
     pub written: [u64; 3],
     pub parts: [u64; 3],
@@ -15,6 +18,8 @@ pub struct Tally {
 impl Tally {
     pub fn add(&mut self, t: &Tally) {
         self.read.iter_mut().zip(t.read).for_each(|(a, b)| *a += b);
+        self.heads.iter_mut().zip(t.heads).for_each(|(a, b)| *a += b);
+        self.left.iter_mut().zip(t.left).for_each(|(a, b)| *a += b);
         self.bodies.iter_mut().zip(t.bodies).for_each(|(a, b)| *a += b);
         self.written.iter_mut().zip(t.written).for_each(|(a, b)| *a += b);
         self.parts.iter_mut().zip(t.parts).for_each(|(a, b)| *a += b);
@@ -22,7 +27,7 @@ impl Tally {
 
     /// How many answers each function of `BY_TEXTS` gave.
     pub fn by_function(&self) -> [u64; BY_TEXTS.len()] {
-        [&self.read[..], &self.bodies, &self.parts, &self.written].map(|answers| answers.iter().sum())
+        [&self.read[..], &self.heads, &self.bodies, &self.parts, &self.written].map(|answers| answers.iter().sum())
     }
 
     pub fn all(&self) -> u64 {
