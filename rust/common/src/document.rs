@@ -1,12 +1,24 @@
 //! The tables of docs/BENCHMARKS.md that programs write.
 
 use std::fs;
+use std::thread::available_parallelism;
 
 const FILE: &str = concat!(env!("CARGO_MANIFEST_DIR"), "/../../docs/BENCHMARKS.md");
 const END: &str = "<!-- end -->\n";
 
-/// Prints tables in Markdown, and puts them where the document has those of this name.
-pub fn store(name: &str, tables: &str) {
+/// How busy the machine was in the last minute, this program with it: about how many programs wanted to run.
+pub fn load() -> String {
+    let load = fs::read_to_string("/proc/loadavg").unwrap_or_default();
+    load.split(' ').next().unwrap_or_default().to_string()
+}
+
+/// Prints tables in Markdown, and puts them where the document has those of this name. The load is that before they were measured.
+pub fn store(name: &str, tables: &str, before: &str) {
+    let cores = available_parallelism().map_or(1, usize::from);
+    let tables = format!(
+        "{tables}\nThe load of the machine's {cores} cores was {before} before this was measured, and {} behind it.\n",
+        load()
+    );
     println!("{tables}");
     let begin = format!("<!-- {name}: written by `make bench` -->\n");
     let text = fs::read_to_string(FILE).expect("docs/BENCHMARKS.md");

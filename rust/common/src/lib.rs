@@ -10,7 +10,7 @@ mod work;
 
 pub use anew::{is_one_run, run, runs, told};
 pub use clock::{clock, median};
-pub use document::{range, store};
+pub use document::{load, range, store};
 pub use random::Random;
 pub use words::words;
 pub use work::in_parts;

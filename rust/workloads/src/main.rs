@@ -19,7 +19,8 @@ fn main() {
             }
         };
     }
-    common::store("notices", &tables::notices(&common::runs(RUNS, &[])));
+    let before = common::load();
+    common::store("notices", &tables::notices(&common::runs(RUNS, &[])), &before);
     let by_length = parsing::LENGTHS.map(|n| common::runs(RUNS, &[&n.to_string()]));
-    common::store("parsing", &tables::parsing(&by_length.concat()));
+    common::store("parsing", &tables::parsing(&by_length.concat()), &before);
 }

@@ -47,6 +47,7 @@ fn main() {
     if common::is_one_run() {
         return Rows::new().all();
     }
+    let before = common::load();
     let mut rows = Vec::new();
     for line in common::runs(RUNS, &[]) {
         add(&mut rows, &line).expect(&line);
@@ -65,5 +66,5 @@ fn main() {
         let cells: Vec<String> = row.cells.iter().map(ratios).collect();
         writeln!(out, "| {} | {goal} | {} | {} |", row.what, cells.join(" | "), cost(row)).unwrap();
     }
-    common::store("leaves", &out);
+    common::store("leaves", &out, &before);
 }

@@ -99,6 +99,7 @@ fn main() {
         let [asked, resident] = if told[1] == "crate" { taken(kept, kept.crated) } else { taken(kept, kept.there) };
         return println!("{asked}\n{resident}");
     }
+    let before = common::load();
     let side = |k: usize, side: &str| -> Vec<u64> {
         common::run(&[&k.to_string(), side]).iter().map(|n| n.parse().expect("a number")).collect()
     };
@@ -113,5 +114,5 @@ fn main() {
         let count = common::grouped(kept.count as u64);
         writeln!(out, "| {} | {count} | {asked} | {resident} | {mark}{ratio:.2}{mark} |", kept.what).unwrap();
     }
-    common::store("memory", &out);
+    common::store("memory", &out, &before);
 }
