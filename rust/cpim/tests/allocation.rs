@@ -1,7 +1,7 @@
-//! `cpim::lent` allocates nothing: every call is counted.
+//! What is allocated: nothing by `cpim::lent`, and by reading what the message holds and no more. Every call and every byte is counted.
 
 use cpim::lent::{body_of, Header, Message, MOST};
-use cpim::Refusal;
+use cpim::{parse_cpim, Refusal};
 use std::alloc::{GlobalAlloc, Layout, System};
 use std::cell::Cell;
 
@@ -9,16 +9,22 @@ struct Counting;
 
 thread_local! {
     static COUNT: Cell<usize> = const { Cell::new(0) };
+    /// Bytes that were asked for and not given back, and the most that they were.
+    static HELD: Cell<usize> = const { Cell::new(0) };
+    static MOST_HELD: Cell<usize> = const { Cell::new(0) };
 }
 
 // SAFETY: passed on as it is to the system's allocator.
 unsafe impl GlobalAlloc for Counting {
     unsafe fn alloc(&self, layout: Layout) -> *mut u8 {
         COUNT.with(|count| count.set(count.get() + 1));
+        HELD.with(|held| held.set(held.get().wrapping_add(layout.size())));
+        MOST_HELD.with(|most| most.set(most.get().max(HELD.get())));
         unsafe { System.alloc(layout) }
     }
 
     unsafe fn dealloc(&self, place: *mut u8, layout: Layout) {
+        HELD.with(|held| held.set(held.get().wrapping_sub(layout.size())));
         unsafe { System.dealloc(place, layout) }
     }
 }
@@ -79,4 +85,33 @@ fn nothing_is_allocated() {
     assert_eq!(after, before);
     drop(vec![0; 10]);
     assert_eq!(COUNT.with(Cell::get), after + 1, "allocations are counted");
+}
+
+/// What a reading's result holds in bytes, and how many more there were at most.
+fn held_by<T>(reading: impl FnOnce() -> T) -> (T, usize, usize) {
+    let before = HELD.get();
+    MOST_HELD.set(before);
+    let result = reading();
+    let held = HELD.get() - before;
+    (result, held, MOST_HELD.get() - before - held)
+}
+
+#[test]
+fn a_message_is_as_long_as_it_has_to_be() {
+    for body in [0, 6, 5_000, 1_000_000] {
+        let text = format!("message/cpim\r\n\r\na:b\r\nc;d=e:f\r\n\r\ng:h\r\n\r\n{}", "x\r\n\r\n".repeat(body / 5));
+        let need = 256 + (16 + 2) + (16 + 2 + 16 + 2) + (16 + 2) + 5 * (body / 5);
+        let (m, held, more) = held_by(|| parse_cpim(&text));
+        assert!(m.is_ok());
+        assert_eq!((held, more), (need, 0), "the head and the body, each made once");
+        let lf = text.replace('\r', "");
+        let (m, held, more) = held_by(|| parse_cpim(&lf));
+        assert!(m.is_ok_and(|m| m.body().len() == 5 * (body / 5)));
+        assert_eq!(held, need);
+        assert!(more <= 2 * text.len(), "{more}");
+        let bad = text.replace("a:b", "a");
+        let (refused, held, more) = held_by(|| parse_cpim(&bad));
+        assert_eq!(refused.map_err(|e| e.number()).err(), Some(4));
+        assert!(held + more < 100, "the words of the refusal: {held}, {more}");
+    }
 }
