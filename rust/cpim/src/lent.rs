@@ -92,8 +92,9 @@ impl<'a> Message<'a> {
 }
 
 impl<'a> Message<'a, &'a [u8]> {
-    /// Reads a text and leaves the body in it; where the text has LFLF for its separator the body is written to the buffer's start, and 26 carries
-    /// its length where the buffer is too short. A refused reading leaves zeros in the head store.
+    /// Reads a text and leaves the body in it. Where the text has LFLF for its separator, the body is written to the buffer's start, and 26 carries
+    /// its length where the buffer is too short; [`parse`](Message::parse) is the faster call for such a text, since it judges it once. A refused
+    /// reading leaves zeros in the head store.
     pub fn parse_in_place(text: &'a [u8], head: &'a mut [u8], buffer: &'a mut [u8]) -> Result<Self, Refusal> {
         let answer = raw::parse_head(text, head).accepted()?;
         let body = match answer.body_in(text) {

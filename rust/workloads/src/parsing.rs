@@ -1,9 +1,10 @@
 //! `parse_cpim` of the gateway's crate beside the source, by the length of the text. Each line has the table, what is read with the
 //! length behind it, the goal, and what one call takes by the crate and by the source.
 
-use crate::measure::{dropping, in_turn};
+use crate::measure::{dropping, in_turn, side, Side};
 use crate::tables::PARSING;
 use ::workloads::inputs::{filled, notice, text, with_line, Script, LARGE, NOTICE};
+use cpim::lent::Message;
 use source::cpim as source;
 use std::hint::black_box;
 
@@ -26,8 +27,25 @@ impl Texts {
     fn row(&self, what: &str, goal: f64, number: u64, text: &str) {
         let refused = cpim::parse_cpim(text).map_or_else(|e| e.number(), |_| 0);
         assert_eq!((refused, source::parse_cpim(text).is_ok()), (number, number == 0), "{what}, {}", self.length);
-        let [here, there] =
-            in_turn([dropping(|| cpim::parse_cpim(black_box(text))), dropping(|| source::parse_cpim(black_box(text)))]);
+        self.beside(what, goal, text, dropping(|| cpim::parse_cpim(black_box(text))));
+    }
+
+    /// A text that is read in lent stores, and its body left in its place.
+    fn in_place(&self, what: &str, goal: f64, text: &str) {
+        let stores = (vec![0; 4_096], vec![0; 2 * text.len()]);
+        let here = side(
+            stores,
+            |_| {},
+            |(head, buffer)| {
+                let m = Message::parse_in_place(black_box(text.as_bytes()), head, buffer);
+                m.map_or(0, |m| m.record().bodylen)
+            },
+        );
+        self.beside(what, goal, text, here);
+    }
+
+    fn beside(&self, what: &str, goal: f64, text: &str, here: Side<'_>) {
+        let [here, there] = in_turn([here, dropping(|| source::parse_cpim(black_box(text)))]);
         println!("{PARSING}\t{what} {}\t{goal}\t{here}\t{there}", self.length);
     }
 
@@ -37,6 +55,7 @@ impl Texts {
         self.row("CRLF, body in one piece", CRLF, 0, &piece);
         self.row("LF, blank lines", LF, 0, &lf(&lines));
         self.row("LF, body in one piece", LF, 0, &lf(&piece));
+        self.in_place("CRLF, blank lines, in lent stores", CRLF, &lines);
         let (colon, control) = (with_line(&lines, 1, "Found"), with_line(&lines, 2, "Content-Note: \u{7f}"));
         self.row("4, CRLF, blank lines", REFUSED, 4, &colon);
         self.row("4, CRLF, body in one piece", REFUSED, 4, &with_line(&piece, 1, "Found"));
