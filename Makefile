@@ -77,6 +77,7 @@ notice: cargo library
 bench: cargo library
 	@cargo run --release $(RUST) --bin bench
 	@cargo run --release $(RUST) --bin workloads
+	@cargo run --release $(RUST) --bin memory
 
 # What the build scripts make libraries of: they prove without a word, this says each crate that was not proved yet.
 library: rt
