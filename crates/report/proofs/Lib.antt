@@ -3,7 +3,7 @@ mod DecimalDigits
 mod ShownLines
 mod LinesPassed
 mod EntryNames
-mod Puts
+pub mod Puts
 mod Read
 mod WordRows
 mod TellingCases

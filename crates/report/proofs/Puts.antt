@@ -5,7 +5,7 @@ use mathlib.Core.List.{[], _++_}
 use native.Mathlib.Omega.{arith}
 use lib.ListN.{length, length-append}
 use Rattle.format.specs.Bytes.{Bytes, pasted}
-use Rattle.octets.proofs.Paste.{pasted-nil, pasted-pasted}
+use Rattle.octets.proofs.Paste.{pasted-nil, pasted-pasted, length-pasted}
 use Rattle.report.specs.Put.{Put}
 
 -- what a function that puts a text ensures
@@ -37,3 +37,9 @@ puts-as {at} {a} {r} {s} {d} {out} t b e h x =
       bytes = x .bytes ∙ ap (λ (u : Bytes). pasted at u d) e;
       within = omega (arith, x .within);
     }
+
+-- what is put from the start on lies within an output that has the bound's room
+pub put-within : {most r : ℕ} {s d out : Bytes} → most ≤ length d → Put 0 most s d out r → r ≤ length out
+put-within {most} {r} {s} {d} {out} h x =
+    let same : length out ≡ length d = ap length (x .bytes) ∙ length-pasted 0 s d (omega (arith, x .place, x .within)) in
+    omega (arith, x .within)

@@ -90,17 +90,18 @@ fn put_held_lines(out: &mut [u8], at: usize, m: CpimMessage, head: &[u8]) -> usi
 }
 
 // All lines for an input: read in stores of 65,536 bytes, and refused by 26 where it is longer. Gives where they end.
-pub fn show(input: &[u8], head: &mut [u8], body: &mut [u8], out: &mut [u8]) -> usize
-    requires { ⌜ (length (now head) ≡ 65536) × (length (now body) ≡ 65536) × (1712 ≤ length (now out)) ⌝ }
+pub fn show(input: &[u8], out: &mut [u8; 1712]) -> usize
     ensures { λ r. ⌜ Put 0 1712 (showcpim (now (input .entry))) (now (out .entry)) (now (out .exit)) r ⌝ }
 {
     if 65536 < input.len() {
         return put_numbers(out, 26, 65537);
     }
-    let a = parse_cpim(input, head, body);
+    let mut head = [0u8; 65536];
+    let mut body = [0u8; 65536];
+    let a = parse_cpim(input, &mut head, &mut body);
     let to = put_numbers(out, a.number, a.carried);
     if a.number != 0 {
         return to;
     }
-    put_held_lines(out, to, a.message, head)
+    put_held_lines(out, to, a.message, &head)
 }

@@ -94,20 +94,21 @@ fn put_loss(out: &mut [u8], clause: usize, entry: usize, m: CpimMessage, head: &
 }
 
 // The line for an input: read in stores of 65,536 bytes, and refused by 26 where it is longer. Gives where it ends.
-pub fn tell(input: &[u8], head: &mut [u8], body: &mut [u8], out: &mut [u8]) -> usize
-    requires { ⌜ (length (now head) ≡ 65536) × (length (now body) ≡ 65536) × (936 ≤ length (now out)) ⌝ }
+pub fn tell(input: &[u8], out: &mut [u8; 936]) -> usize
     ensures { λ r. ⌜ Put 0 936 (wholecpim (now (input .entry))) (now (out .entry)) (now (out .exit)) r ⌝ }
 {
     if 65536 < input.len() {
         let long = put_refusal(out, 26, 65537);
         return put_byte(out, long, b'\n');
     }
-    let a = parse_cpim(input, head, body);
+    let mut head = [0u8; 65536];
+    let mut body = [0u8; 65536];
+    let a = parse_cpim(input, &mut head, &mut body);
     if a.number != 0 {
         let no = put_refusal(out, a.number, a.carried);
         return put_byte(out, no, b'\n');
     }
-    let l = loss_of(a.message, head, body);
-    let to = put_loss(out, l.clause, l.entry, a.message, head);
+    let l = loss_of(a.message, &head, &body);
+    let to = put_loss(out, l.clause, l.entry, a.message, &head);
     put_byte(out, to, b'\n')
 }

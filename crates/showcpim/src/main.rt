@@ -3,9 +3,7 @@
 fn main() {
     let mut input = [0u8; 65537];
     let n = io::read_full(0, &mut input);
-    let mut head = [0u8; 65536];
-    let mut body = [0u8; 65536];
     let mut out = [0u8; 1712];
-    let end = report::show(&input[..n], &mut head, &mut body, &mut out);
+    let end = report::show(&input[..n], &mut out);
     io::write_all(1, &out[..end]);
 }
