@@ -2,9 +2,16 @@
 // `report::telling::tell` says what is printed.
 
 fn main() {
-    let mut input = [0u8; 65537];
-    let n = io::read_full(0, &mut input);
+    let mut text = [0u8; 65537];
+    let got = input::read_whole(0, &mut text);
+    if !got.whole {
+        io::write_all(2, b"wholecpim: standard input cannot be read\n");
+        return;
+    }
+    let n = got.count;
     let mut out = [0u8; 936];
-    let end = report::telling::tell(&input[..n], &mut out);
-    io::write_all(1, &out[..end]);
+    let end = report::telling::tell(&text[..n], &mut out);
+    if !io::write_all(1, &out[..end]) {
+        io::write_all(2, b"wholecpim: standard output cannot be written\n");
+    }
 }

@@ -11,13 +11,14 @@ array-share-prefix-out c =
     let called : tie.After-tell = search in
     put-within (search needs) (called .tell .ensures)
 
-slice-aggregate-write-all : tie.Need-slice-aggregate-write-all
-slice-aggregate-write-all c =
+slice-aggregate-write-all-2 : tie.Need-slice-aggregate-write-all-2
+slice-aggregate-write-all-2 c =
     let called : tie.After-tell = search in
     sym (length-take-le (called .tell .result) (called .tell .last .1 .0) (put-within (search needs) (called .tell .ensures)))
 
 pub main-spec : {M : Type 1} → statement M
 main-spec =
     tie.close
-    (tie.spec (λ c. search needs) (λ c κs. search needs) (λ c. search needs) (λ c. search needs) (λ c κs. search needs) array-share-prefix-out
-    slice-aggregate-write-all (λ c κs. search needs) (λ c. search needs))
+    (tie.spec (λ c. search needs) (λ c κs. search needs) (λ c. search needs) (λ c κs. search needs) (λ c. search needs) (λ c. search needs)
+    (λ c. search needs) (λ c κs. search needs) array-share-prefix-out slice-aggregate-write-all-2 (λ c κs. search needs) (λ c. search needs)
+    (λ c κs. search needs) (λ c. search needs) (λ c. search needs))
