@@ -1,7 +1,8 @@
 // Input read whole, for the programs: the end of the input is told from a read that fails, and a read that was interrupted or found
-// nothing ready yet is made again. Which bytes are read no contract can say.
+// nothing ready is made again. Which bytes are read no contract can say.
 
 ghost use Rattle.io.specs.Counts.{Counts};
+ghost use Rattle.input.specs.Reads.{Says, Passes};
 
 // What a read says of the input.
 pub enum Next {
@@ -16,22 +17,33 @@ pub struct Input {
     pub whole: bool,
 }
 
-// By what a read answered, and errno where that is negative.
-fn after(got: isize) -> Next {
-    if got > 0 {
-        return Next::More;
-    }
-    if got == 0 {
-        return Next::End;
-    }
-    let error = os::errno();
+// A call that failed by this errno may be made again: it was interrupted, or nothing was ready.
+fn passes(error: i32) -> bool
+    ensures { λ r. ⌜ Passes error r ⌝ }
+{
     if error == libc::EINTR {
-        return Next::Later;
+        return true;
     }
     if error == libc::EAGAIN {
-        return Next::Later;
+        return true;
     }
-    Next::Failed
+    false
+}
+
+// By what a read answered, and errno where that is negative.
+fn after(got: isize) -> Next
+    ensures { λ r. ⌜ Says got r ⌝ }
+{
+    if 0 < got {
+        return Next::More;
+    }
+    if got < 0 {
+        if passes(os::errno()) {
+            return Next::Later;
+        }
+        return Next::Failed;
+    }
+    Next::End
 }
 
 // Lets others run, and gives the second that it is now.
@@ -43,7 +55,7 @@ fn pause() -> i64 {
 }
 
 // Reads until the buffer is full, the input ends, a read fails, or no byte has come for a minute. Gives how many bytes stand at the start
-// of the buffer, and whether they are all of the input that there is room for.
+// of the buffer, and whether they are all of the input that there is room for. The turns only bound the loop.
 pub fn read_whole(fd: i32, buf: &mut [u8]) -> Input
     ensures { λ r. ⌜ Counts (r .count) (now (buf .exit)) ⌝ }
 {
