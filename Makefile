@@ -1,5 +1,5 @@
 # `make` proves everything and prints what is proved of the whole; `make show` is a first look; `make test` is the gate.
-.PHONY: prove show test proofs examples compare bench format library gateway notice rt cargo
+.PHONY: prove show test proofs examples compare bench format library gateway notice rt cc cargo
 
 # What fails left of a pipe fails.
 SHELL := bash
@@ -44,13 +44,14 @@ proofs: rt
 	@.ci/refused
 	@$(MAKE) --no-print-directory examples
 
-# The programs on the notices of examples/, held to what stands beside each.
-examples: rt
+# The programs on the notices of examples/, held to what stands beside each, and on inputs that are slow, long or cannot be read.
+examples: rt cc
 	@out=$$($(RT) check showcpim wholecpim) || { printf '%s\n' "$$out"; exit 1; }
 	@for notice in examples/*.cpim; do \
 		target/bin/showcpim <"$$notice" | cmp - "$${notice%.cpim}.show" || exit 1; \
 		target/bin/wholecpim <"$$notice" | cmp - "$${notice%.cpim}.whole" || exit 1; \
 	done; echo "examples: the programs print what stands beside each notice"
+	@.ci/programs-test
 
 # The leaves beside Rust's standard library and the source; lists of calls, and texts read and written, beside the source; the gateway's crate.
 compare: cargo library gateway notice
@@ -67,8 +68,7 @@ gateway: cargo library
 	done
 
 # A program in C on the header and the library, which the crate's build leaves in target/staticlib: what it prints is examples/notice.out.
-notice: cargo library
-	@command -v cc >/dev/null || { echo "cc is not on the PATH: the example in C needs a C compiler"; exit 1; }
+notice: cargo cc library
 	@cargo build $(RUST) -p cpim
 	@$(LOCKED) cc -std=c99 -Wall -Wextra -Wpedantic -Werror -Icrates/cpim examples/notice.c target/staticlib/libcpim.a -o target/notice
 	@target/notice | cmp - examples/notice.out
@@ -88,6 +88,9 @@ format: rt
 
 rt:
 	@command -v rt >/dev/null || { echo "rt is not on the PATH: install the Rattle toolchain first"; exit 1; }
+
+cc:
+	@command -v cc >/dev/null || { echo "cc is not on the PATH: the example in C and the test of the programs need a C compiler"; exit 1; }
 
 cargo:
 	@command -v cargo >/dev/null || { echo "cargo is not on the PATH: the comparison with the source and the benchmarks need Rust"; exit 1; }
