@@ -89,6 +89,13 @@ fn put_held_lines(out: &mut [u8], at: usize, m: CpimMessage, head: &[u8]) -> usi
     put_message(out, at, m.headers, params, m.contents, kind, m.bodylen)
 }
 
+// A store to read in. Its length is all that is known of it, and all that reading asks.
+fn store() -> [u8; 65536]
+    ensures { λ r. ⌜ length r ≡ 65536 ⌝ }
+{
+    [0; 65536]
+}
+
 // All lines for an input: read in stores of 65,536 bytes, and refused by 26 where it is longer. Gives where they end.
 pub fn show(input: &[u8], out: &mut [u8; 1712]) -> usize
     ensures { λ r. ⌜ Put 0 1712 (showcpim (now (input .entry))) (now (out .entry)) (now (out .exit)) r ⌝ }
@@ -96,8 +103,8 @@ pub fn show(input: &[u8], out: &mut [u8; 1712]) -> usize
     if 65536 < input.len() {
         return put_numbers(out, 26, 65537);
     }
-    let mut head = [0u8; 65536];
-    let mut body = [0u8; 65536];
+    let mut head = store();
+    let mut body = store();
     let a = parse_cpim(input, &mut head, &mut body);
     let to = put_numbers(out, a.number, a.carried);
     if a.number != 0 {

@@ -1,6 +1,7 @@
 // Whether a notice comes back whole, and if not what is lost and why, in words (specs/Telling.antt): what the program `wholecpim` prints,
 // over the bytes of an output.
 
+use crate::store;
 use crate::words::put_entry_words;
 use crate::words::put_reason;
 use crate::words::put_refusal;
@@ -101,8 +102,8 @@ pub fn tell(input: &[u8], out: &mut [u8; 936]) -> usize
         let long = put_refusal(out, 26, 65537);
         return put_byte(out, long, b'\n');
     }
-    let mut head = [0u8; 65536];
-    let mut body = [0u8; 65536];
+    let mut head = store();
+    let mut body = store();
     let a = parse_cpim(input, &mut head, &mut body);
     if a.number != 0 {
         let no = put_refusal(out, a.number, a.carried);

@@ -35,5 +35,5 @@ returns-3 c =
 pub show-spec : {M : Type 1} → statement M
 show-spec =
     tie.close
-    (tie.spec (λ c κs. search needs) returns (λ c. search needs) (λ c. search needs) (λ c κs. search needs) (λ c κs. search needs) returns-2
+    (tie.spec (λ c κs. search needs) returns (λ c κs. search needs) (λ c κs. search needs) (λ c. search needs) (λ c. search needs) (λ c κs. search needs) (λ c κs. search needs) returns-2
     (λ c. search needs) put-held-lines-requires returns-3)
