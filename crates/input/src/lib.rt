@@ -5,13 +5,14 @@ ghost use Rattle.io.specs.Counts.{Counts};
 ghost use Rattle.input.specs.Reads.{Says, Passes};
 
 // What a read says of the input.
-pub enum Next {
+enum Next {
     More,
     End,
     Later,
     Failed,
 }
 
+// How many bytes were read, and whether they are all of the input that there was room for.
 pub struct Input {
     pub count: usize,
     pub whole: bool,
