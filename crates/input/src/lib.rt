@@ -32,14 +32,14 @@ fn passes(error: i32) -> bool
 }
 
 // By what a read answered, and errno where that is negative.
-fn after(got: isize) -> Next
-    ensures { λ r. ⌜ Says got r ⌝ }
+fn after(got: isize, error: i32) -> Next
+    ensures { λ r. ⌜ Says got error r ⌝ }
 {
     if 0 < got {
         return Next::More;
     }
     if got < 0 {
-        if passes(os::errno()) {
+        if passes(error) {
             return Next::Later;
         }
         return Next::Failed;
@@ -73,7 +73,7 @@ pub fn read_whole(fd: i32, buf: &mut [u8]) -> Input
             };
         }
         let got = libc::read(fd, &mut buf[count..]);
-        let next = after(got);
+        let next = after(got, os::errno());
         match next {
             Next::More => {
                 count += io::count(got, &buf[count..]);
