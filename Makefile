@@ -1,5 +1,5 @@
 # `make` proves everything and prints what is proved of the whole; `make show` is a first look; `make test` is the gate.
-.PHONY: prove show test proofs examples compare bench format library gateway notice rt cc cargo
+.PHONY: prove show test proofs examples programs compare bench format library gateway notice rt cc cargo
 
 # What fails left of a pipe fails.
 SHELL := bash
@@ -27,7 +27,7 @@ show: rt
 	@target/bin/showcpim <examples/umbrella.cpim
 	@target/bin/wholecpim <examples/umbrella.cpim
 
-# What needs the Rattle toolchain alone, then what needs Rust too. The last line is rt's own once more: 'N passed, 0 failed'.
+# What needs the Rattle toolchain (and, last, a C compiler), then what needs Rust too. The last line is rt's own once more: 'N passed, 0 failed'.
 test: proofs
 	@$(MAKE) --no-print-directory compare
 	@tail -n 1 target/ci.out
@@ -42,15 +42,19 @@ proofs: rt
 	@said=$$(mktemp); trap 'rm -f "$$said"' EXIT; $(RT) ci | tee "$$said"; cp "$$said" target/ci.out
 	@[[ $$(tail -n 1 target/ci.out) == *' passed, 0 failed' ]]
 	@.ci/refused
-	@$(MAKE) --no-print-directory examples
+	@$(MAKE) --no-print-directory examples programs
 
-# The programs on the notices of examples/, held to what stands beside each, and on inputs that are slow, long or cannot be read.
-examples: rt cc
+# The programs on the notices of examples/, held to what stands beside each.
+examples: rt
 	@out=$$($(RT) check showcpim wholecpim) || { printf '%s\n' "$$out"; exit 1; }
 	@for notice in examples/*.cpim; do \
 		target/bin/showcpim <"$$notice" | cmp - "$${notice%.cpim}.show" || exit 1; \
 		target/bin/wholecpim <"$$notice" | cmp - "$${notice%.cpim}.whole" || exit 1; \
 	done; echo "examples: the programs print what stands beside each notice"
+
+# The programs on inputs that are slow, late, long or cannot be read.
+programs: rt cc
+	@out=$$($(RT) check showcpim wholecpim) || { printf '%s\n' "$$out"; exit 1; }
 	@.ci/programs-test
 
 # The leaves beside Rust's standard library and the source; lists of calls, and texts read and written, beside the source; the gateway's crate.

@@ -3,7 +3,8 @@
  * A slice crosses as its place, which is never NULL, and its length, which may be 0. Any record, any bytes and any lengths are answered; nothing is allocated. What is lent to be
  * written must overlap nothing else that is lent to the same call.
  *
- * A head store takes 256 bytes, and 16 and its name and value for each header, parameter and content header (at most 250,016 bytes); a header alone
+ * A head store takes 256 bytes, and 16 and its name and value for each header, parameter and content header (at most 250,016 bytes); a reading may need
+ * more on the way, where a content header is given twice, and 25 says how much; a header alone
  * takes 16 and its value, and 16 and its name and value for each parameter. The body stands at the start of its store.
  *
  * number 0: accepted. Any other is a refusal, and nothing is changed (but see cpim_parse and cpim_parse_head):
@@ -113,10 +114,10 @@ typedef struct {
 cpim_answer_t cpim_parse(const uint8_t *text, size_t text_len, uint8_t *head, size_t head_len, uint8_t *body,
                          size_t body_len);
 
-/* Reads a text and leaves its body where it stands: record and head store are those of cpim_parse, the refusals too, but 26 never comes. Under CRLFCRLF
- * the body is the text from start on, message.bodylen bytes: in_text is true, and no byte of it is copied. Under LFLF in_text is false, start 0, and
- * message.bodylen is the length of the body joined, which cpim_read_body writes to a buffer. The body is then lent to other calls as any body store.
- * Refused: the empty record, false, 0, and zeros over the head store. */
+/* Reads a text and leaves its body where it stands: record, head store and refusals are those of cpim_parse with room for every body, so 26 never
+ * comes. Under CRLFCRLF the body is the text from start on, message.bodylen bytes: in_text is true, and no byte of it is copied. Under LFLF in_text is
+ * false, start 0, and message.bodylen is the length of the body joined, which cpim_read_body writes to a buffer. Calls that only read a body store can be
+ * lent the body where it stands. Refused: the empty record, false, 0, and zeros over the head store. */
 cpim_head_answer_t cpim_parse_head(const uint8_t *text, size_t text_len, uint8_t *head, size_t head_len);
 
 /* The length of a text's body. Under CRLFCRLF the body is the end of the text and the buffer is not used; under LFLF it is written to the buffer's

@@ -4,3 +4,4 @@ pub mod HeaderSectionLine
 pub mod ReadStores
 pub mod HeadFirst
 pub mod Endings
+pub mod NeverShort

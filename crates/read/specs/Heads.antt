@@ -1,5 +1,5 @@
 -- A reading that leaves the body where it stands: record, head store and refusals are those of a reading with room for every body, so 26
--- never comes, and 23 comes where it always does. Assumes nothing.
+-- never comes (`never-short` in proofs/NeverShort.antt), and 23 comes where it always does. Assumes nothing.
 use Prim.Native.Nat.{ℕ, _-_}
 use mathlib.Core.Path.{_≡_}
 use mathlib.Core.Bool.{Bool, true, false}

@@ -54,7 +54,7 @@ impl fmt::Display for Refusal {
             24 => f.write_str("text or argument not UTF-8"),
             25 if carried == 0 => f.write_str("no message or header is held"),
             25 => write!(f, "head or header store too short ({carried} bytes needed)"),
-            26 => write!(f, "body store or output too short ({carried} needed)"),
+            26 => write!(f, "body store or output too short ({carried} bytes needed)"),
             _ => f.write_str("a number that is not in the table"),
         }
     }

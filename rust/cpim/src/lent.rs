@@ -110,6 +110,11 @@ impl<'a> Message<'a, &'a [u8]> {
         Ok(Message { record: answer.record, head, body })
     }
 
+    /// The body where it stands, for as long as the text and the buffer are lent.
+    pub fn body_in_place(&self) -> &'a [u8] {
+        &self.body[..self.record.bodylen]
+    }
+
     /// As [`held`](Message::held), with a body that is not to be written.
     pub fn held_in_place(record: Record, head: &'a mut [u8], body: &'a [u8]) -> Result<Self, Refusal> {
         judged(record, head, body)?;

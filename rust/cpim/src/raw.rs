@@ -23,7 +23,7 @@ pub struct Record {
 }
 
 impl Record {
-    /// The bytes of the head store that the message takes.
+    /// The bytes of the head store that the message takes. Reading its text may need more on the way, where a content header is given twice.
     pub fn need(&self) -> usize {
         self.headerlen.saturating_add(self.contentlen).saturating_add(256)
     }

@@ -1,7 +1,8 @@
 //! The functions that write to room which holds nothing yet: what is made for a message is not zeroed first.
 //!
-//! Each contract says what the first bytes of a store are afterwards, whatever they were before, so these are written: for a message `Holds` in
-//! crates/format/specs/Layout.antt, of which `laid` speaks of all the bytes that are needed, the zeros behind the type among them.
+//! Each contract says what the first bytes of a store are afterwards, whatever they were before: for a reading `ReadInto` in
+//! crates/format/specs/Lending.antt, of which `laid` speaks of all the bytes that are needed, the zeros behind the type among them. A function that
+//! did not write them could not keep that for every store that it may be lent.
 
 use super::{cpim_parse, cpim_parse_head, cpim_read_body, cpim_to_string, Answer, HeadAnswer, Record};
 use std::mem::MaybeUninit;
@@ -11,7 +12,7 @@ pub(crate) fn parse_head_into<'a>(text: &[u8], head: &'a mut [MaybeUninit<u8>]) 
     // SAFETY: as in raw.rs.
     let answer = unsafe { cpim_parse_head(text.as_ptr(), text.len(), head.as_mut_ptr().cast(), head.len()) };
     let need = if answer.number == 0 { answer.record.need() } else { 0 };
-    // SAFETY: `laid` in `Holds`.
+    // SAFETY: `laid` in `ReadInto`.
     (answer, unsafe { written(head, need) })
 }
 
@@ -27,7 +28,7 @@ pub(crate) fn parse_into<'a>(
     // SAFETY: as in raw.rs.
     let answer = unsafe { cpim_parse(t.as_ptr(), t.len(), h.as_mut_ptr().cast(), h.len(), body.as_mut_ptr(), room) };
     let (need, len) = if answer.number == 0 { (answer.record.need(), answer.record.bodylen.min(room)) } else { (0, 0) };
-    // SAFETY: `laid` and `stored` in `Holds`.
+    // SAFETY: `laid` and `stored` in `ReadInto`.
     unsafe {
         body.set_len(len);
         (answer, written(h, need), body)
