@@ -3,7 +3,6 @@
    Built as a program, it starts PROGRAM with a pipe as standard input and writes FILE into it:
        feed halves FILE PROGRAM     the pipe does not block its reader; the second half comes 0.3 s after the first
        feed bytes FILE PROGRAM      byte by byte
-       feed stopped FILE PROGRAM    PROGRAM is stopped and goes on while it waits for the first byte
    Built with -DREAD as a shared library that is loaded first, it is a `read` of standard input that fails: its first FAILING calls
    set errno to ERROR. */
 #define _GNU_SOURCE
@@ -46,7 +45,7 @@ int main(int count, char **words)
     if (!file || pipe(ends))
         return 3;
     size_t length = fread(text, 1, sizeof text, file), half = length / 2;
-    if (strcmp(words[1], "halves") == 0)
+    if (strcmp(words[1], "bytes") != 0)
         fcntl(ends[0], F_SETFL, O_NONBLOCK);
     pid_t child = fork();
     if (child == 0) {
@@ -63,17 +62,10 @@ int main(int count, char **words)
             give(ends[1], text + i, 1);
             usleep(200);
         }
-    } else if (strcmp(words[1], "halves") == 0) {
+    } else {
         give(ends[1], text, half);
         usleep(300000);
         give(ends[1], text + half, length - half);
-    } else {
-        usleep(50000);
-        kill(child, SIGSTOP);
-        usleep(50000);
-        kill(child, SIGCONT);
-        usleep(50000);
-        give(ends[1], text, length);
     }
     close(ends[1]);
     waitpid(child, &status, 0);
