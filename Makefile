@@ -42,7 +42,7 @@ proofs: rt
 	@said=$$(mktemp); trap 'rm -f "$$said"' EXIT; $(RT) ci | tee "$$said"; cp "$$said" target/ci.out
 	@[[ $$(tail -n 1 target/ci.out) == *' passed, 0 failed' ]]
 	@.ci/refused
-	@$(MAKE) --no-print-directory examples programs
+	@$(MAKE) --no-print-directory programs
 
 # The programs on the notices of examples/, held to what stands beside each.
 examples: rt
@@ -53,8 +53,7 @@ examples: rt
 	done; echo "examples: the programs print what stands beside each notice"
 
 # The programs on inputs that are slow, late, long or cannot be read.
-programs: rt cc
-	@out=$$($(RT) check showcpim wholecpim) || { printf '%s\n' "$$out"; exit 1; }
+programs: examples cc
 	@.ci/programs-test
 
 # The leaves beside Rust's standard library and the source; lists of calls, and texts read and written, beside the source; the gateway's crate.
