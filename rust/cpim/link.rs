@@ -181,13 +181,14 @@ fn toolchain() -> Result<String, String> {
     }
 }
 
-/// Runs `rt` with what it says in a file: where crates are not proved that is pages. It holds the lock too, so that the lock outlives this script
-/// where that is ended first.
+/// Runs `rt` with what it says in a file: where crates are not proved that is pages. It and all that it starts hold the lock too, so that the lock
+/// outlives this script where that is ended first. `rt` proves in the background, where standard input is not handed on and Ctrl-C is ignored, hence
+/// the shell, which moves the lock to a descriptor that is.
 fn rt(root: &Path, name: &str, words: &[String], lock: &File, said: &Path) -> Result<(), String> {
     let run = || {
         let file = File::create(said)?;
-        let mut rt = Command::new("rt");
-        rt.args(words).current_dir(root);
+        let mut rt = Command::new("/bin/sh");
+        rt.args(["-c", "exec rt \"$@\" 9<&0 </dev/null", "sh"]).args(words).current_dir(root);
         rt.stdin(lock.try_clone()?).stdout(file.try_clone()?).stderr(file).status()
     };
     let status = run().map_err(|e| format!("`rt` cannot be run ({e})"))?;
@@ -196,6 +197,10 @@ fn rt(root: &Path, name: &str, words: &[String], lock: &File, said: &Path) -> Re
     }
     let text = fs::read(said).unwrap_or_default();
     let text = String::from_utf8_lossy(&text);
+    // What a shell ends with that finds no such program, or none that runs.
+    if let Some(126 | 127) = status.code() {
+        return Err(format!("`rt` cannot be run ({})", text.lines().last().unwrap_or_default()));
+    }
     let failed = text.lines().find_map(|line| line.strip_prefix("rt: FAILED: ")?.split(' ').next()).unwrap_or(name);
     Err(format!(
         "`rt` does not prove the library ({status}, at {failed}): run `rt staticlib {name}` in {}, or read target/log/{failed}.say there",
