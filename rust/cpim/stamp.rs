@@ -5,7 +5,8 @@ use std::collections::BTreeMap;
 use std::path::{Path, PathBuf};
 use std::{fs, io};
 
-/// What decides on a library: `src`, `specs` and `proofs` of the crates that it rests on, and what crates.txt says of these crates.
+/// What decides on a library: the `.rt` and `.antt` files in `src`, `specs` and `proofs` of the crates that it rests on, and what crates.txt says of
+/// these crates.
 pub struct Sources {
     pub digest: String,
     /// The crates that it names itself.
@@ -34,7 +35,8 @@ impl Sources {
             for part in ["src", "specs", "proofs"] {
                 let folder = root.join("crates").join(name).join(part);
                 if folder.is_dir() {
-                    add(&mut text, root, &folder).map_err(|e| format!("{} cannot be read ({e})", folder.display()))?;
+                    add(&mut text, root, &folder, &["rt", "antt"])
+                        .map_err(|e| format!("{} cannot be read ({e})", folder.display()))?;
                     paths.push(folder);
                 }
             }
@@ -62,15 +64,16 @@ fn rests_on<'a>(list: &'a str, name: &'a str) -> BTreeMap<&'a str, Vec<&'a str>>
     found
 }
 
-/// Adds name, length and contents of each file at or below a path, by ascending name.
-fn add(text: &mut Vec<u8>, root: &Path, path: &Path) -> io::Result<()> {
+/// Adds name, length and contents of each file of these kinds at or below a path, by ascending name. An editor's own files are of other kinds.
+fn add(text: &mut Vec<u8>, root: &Path, path: &Path, kinds: &[&str]) -> io::Result<()> {
     if path.is_dir() {
         let mut entries = fs::read_dir(path)?.map(|entry| Ok(entry?.path())).collect::<io::Result<Vec<_>>>()?;
         entries.sort();
-        return entries.iter().try_for_each(|entry| add(text, root, entry));
+        return entries.iter().try_for_each(|entry| add(text, root, entry, kinds));
     }
+    let of_these = path.extension().is_some_and(|kind| kinds.iter().any(|one| kind == *one));
     // An editor's lock file is a link to nothing.
-    if path.is_file() {
+    if of_these && path.is_file() {
         let contents = fs::read(path)?;
         text.extend(format!("{} {}\n", path.strip_prefix(root).unwrap_or(path).display(), contents.len()).bytes());
         text.extend(contents);
