@@ -6,7 +6,7 @@ mod sha256;
 mod stamp;
 
 use sha256::sha256;
-use stamp::{Sources, Stamp};
+use stamp::{boundary, Sources, Stamp};
 use std::env;
 use std::fs::{self, File, OpenOptions};
 use std::io::{self, ErrorKind};
@@ -48,22 +48,26 @@ fn library(name: &str, out: &Path) -> Result<Library, String> {
             "the proved library is compiled for x86_64 linux alone, and this build is for {machine}: build with `--target x86_64-unknown-linux-gnu`"
         ));
     }
-    let root = Path::new(&variable("CARGO_MANIFEST_DIR")).join("../..");
+    let package = PathBuf::from(variable("CARGO_MANIFEST_DIR"));
+    let root = package.join("../..");
     let root = root.canonicalize().map_err(|e| format!("{} cannot be read ({e})", root.display()))?;
     let elsewhere = PathBuf::from(variable("CPIM_LIB_DIR"));
-    match (elsewhere.as_os_str().is_empty(), Sources::are_at(&root, name)) {
-        (false, true) => built_elsewhere(&elsewhere, name, Some(Sources::read(&root, name)?)),
-        (false, false) => built_elsewhere(&elsewhere, name, None),
-        (true, true) => built_here(&root, name, out),
+    let (boundary, files) = boundary(&package)?;
+    let mut library = match (elsewhere.as_os_str().is_empty(), Sources::are_at(&root, name)) {
+        (false, true) => built_elsewhere(&elsewhere, name, &boundary, Some(Sources::read(&root, name)?)),
+        (false, false) => built_elsewhere(&elsewhere, name, &boundary, None),
+        (true, true) => built_here(&root, name, &boundary, out),
         (true, false) => Err(format!(
             "this copy of the package has no crates/ beside it, from which the library is proved: {}",
             way_out(name, &this_version())
         )),
-    }
+    }?;
+    library.watched.extend(files);
+    Ok(library)
 }
 
 /// The library of target/staticlib. The lock is held before anything is compared, so whoever waited finds what the other has built.
-fn built_here(root: &Path, name: &str, out: &Path) -> Result<Library, String> {
+fn built_here(root: &Path, name: &str, boundary: &str, out: &Path) -> Result<Library, String> {
     let lock = lock(root);
     let sources = Sources::read(root, name)?;
     let toolchain = toolchain();
@@ -71,6 +75,7 @@ fn built_here(root: &Path, name: &str, out: &Path) -> Result<Library, String> {
     let watched = |bytes| Library { bytes, watched: [&sources.paths[..], &[library.clone(), stamp.clone()]].concat() };
     let stamp_of = |bytes: &[u8], toolchain: &str| Stamp {
         version: variable("CARGO_PKG_VERSION"),
+        boundary: boundary.to_string(),
         sources: sources.digest.clone(),
         toolchain: toolchain.to_string(),
         library: sha256(bytes),
@@ -78,7 +83,12 @@ fn built_here(root: &Path, name: &str, out: &Path) -> Result<Library, String> {
 
     if let (Ok(bytes), Some(said)) = (fs::read(&library), Stamp::read(&stamp)) {
         // Without `rt` the toolchain that built it can only be believed.
-        if said == stamp_of(&bytes, toolchain.as_ref().unwrap_or(&said.toolchain)) {
+        let fits = stamp_of(&bytes, toolchain.as_ref().unwrap_or(&said.toolchain));
+        if (&said.sources, &said.toolchain, &said.library) == (&fits.sources, &fits.toolchain, &fits.library) {
+            // Version and boundary are for whoever takes the library elsewhere. Nothing here goes by them, so a stamp that cannot be written stays.
+            if said != fits && lock.is_ok() {
+                let _ = fs::write(&stamp, fits.text());
+            }
             return Ok(watched(bytes));
         }
     }
@@ -113,8 +123,8 @@ fn built_here(root: &Path, name: &str, out: &Path) -> Result<Library, String> {
     Ok(watched(bytes))
 }
 
-/// The library of a folder. Its stamp has to fit the sources, or the package's version where there are none.
-fn built_elsewhere(folder: &Path, name: &str, sources: Option<Sources>) -> Result<Library, String> {
+/// The library of a folder. Its stamp has to fit the sources, or the package's version and its side of the boundary where there are none.
+fn built_elsewhere(folder: &Path, name: &str, boundary: &str, sources: Option<Sources>) -> Result<Library, String> {
     let fails = |why: String| Err(format!("CPIM_LIB_DIR is {}, {why}", folder.display()));
     if !folder.is_absolute() {
         return fails("and has to be a path from the root".to_string());
@@ -136,6 +146,12 @@ fn built_elsewhere(folder: &Path, name: &str, sources: Option<Sources>) -> Resul
     };
     if !fits {
         return fails(format!("whose lib{name}.a was not built from {of}: {}", way_out(name, &of)));
+    }
+    if sources.is_none() && said.boundary != boundary {
+        return fails(format!(
+            "whose lib{name}.a has the version of this package and was built for another src/raw.rs or src/raw: {}",
+            way_out(name, "the commit that this package was copied from")
+        ));
     }
     let mut watched = sources.map(|sources| sources.paths).unwrap_or_default();
     watched.extend([library, stamp]);

@@ -45,6 +45,18 @@ impl Sources {
     }
 }
 
+/// The package's own side of the boundary to the library, src/raw.rs and the files in src/raw: their digest, and what of them is there to watch.
+/// What a call means may change under one version.
+pub fn boundary(package: &Path) -> Result<(String, Vec<PathBuf>), String> {
+    let paths: Vec<PathBuf> =
+        ["src/raw.rs", "src/raw"].map(|path| package.join(path)).into_iter().filter(|path| path.exists()).collect();
+    let mut text = Vec::new();
+    for path in &paths {
+        add(&mut text, package, path, &["rs"]).map_err(|e| format!("{} cannot be read ({e})", path.display()))?;
+    }
+    Ok((sha256(&text), paths))
+}
+
 /// The crates that a crate rests on, itself among them, each with the libraries that it names. The toolchain's own have no line.
 fn rests_on<'a>(list: &'a str, name: &'a str) -> BTreeMap<&'a str, Vec<&'a str>> {
     let lines: BTreeMap<&str, Vec<&str>> = list
@@ -84,8 +96,9 @@ fn add(text: &mut Vec<u8>, root: &Path, path: &Path, kinds: &[&str]) -> io::Resu
 /// What stands beside a library, in lines of a word and its value.
 #[derive(PartialEq)]
 pub struct Stamp {
-    /// Of the package whose build script had the library built.
+    /// Of the package whose build script had the library built, as is the boundary.
     pub version: String,
+    pub boundary: String,
     pub sources: String,
     /// What `rt version` said.
     pub toolchain: String,
@@ -99,6 +112,7 @@ impl Stamp {
             |word: &str| Some(text.lines().find_map(|line| line.strip_prefix(word)?.strip_prefix(' '))?.to_string());
         Some(Stamp {
             version: value("version")?,
+            boundary: value("boundary")?,
             sources: value("sources")?,
             toolchain: value("toolchain")?,
             library: value("library")?,
@@ -106,7 +120,7 @@ impl Stamp {
     }
 
     pub fn text(&self) -> String {
-        let Stamp { version, sources, toolchain, library } = self;
-        format!("version {version}\nsources {sources}\ntoolchain {toolchain}\nlibrary {library}\n")
+        let Stamp { version, boundary, sources, toolchain, library } = self;
+        format!("version {version}\nboundary {boundary}\nsources {sources}\ntoolchain {toolchain}\nlibrary {library}\n")
     }
 }
