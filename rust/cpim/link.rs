@@ -23,7 +23,7 @@ struct Library {
 /// else: cargo shows all that a script said that fails.
 pub fn link(name: &str) {
     // The bytes whose digest was compared are the ones that are linked, from a folder that nobody else writes or removes.
-    let out = PathBuf::from(variable("OUT_DIR"));
+    let out = path("OUT_DIR");
     let copied = library(name, &out).and_then(|library| {
         let copy = out.join(format!("lib{name}.a"));
         fs::write(&copy, library.bytes).map_err(|e| format!("{} cannot be written ({e})", copy.display()))?;
@@ -48,10 +48,10 @@ fn library(name: &str, out: &Path) -> Result<Library, String> {
             "the proved library is compiled for x86_64 linux alone, and this build is for {machine}: build with `--target x86_64-unknown-linux-gnu`"
         ));
     }
-    let package = PathBuf::from(variable("CARGO_MANIFEST_DIR"));
+    let package = path("CARGO_MANIFEST_DIR");
     let root = package.join("../..");
     let root = root.canonicalize().map_err(|e| format!("{} cannot be read ({e})", root.display()))?;
-    let elsewhere = PathBuf::from(variable("CPIM_LIB_DIR"));
+    let elsewhere = path("CPIM_LIB_DIR");
     let (boundary, files) = boundary(&package)?;
     let mut library = match (elsewhere.as_os_str().is_empty(), Sources::are_at(&root, name)) {
         (false, true) => built_elsewhere(&elsewhere, name, &boundary, Some(Sources::read(&root, name)?)),
@@ -226,5 +226,10 @@ fn rt(root: &Path, name: &str, words: &[String], lock: &File, said: &Path) -> Re
 
 /// Empty where it is not set.
 fn variable(name: &str) -> String {
-    env::var_os(name).unwrap_or_default().to_string_lossy().into_owned()
+    path(name).to_string_lossy().into_owned()
+}
+
+/// The same where it is a path, which need not be UTF-8.
+fn path(name: &str) -> PathBuf {
+    env::var_os(name).unwrap_or_default().into()
 }
