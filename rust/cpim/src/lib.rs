@@ -28,7 +28,8 @@
 //! a stamp beside the library, in target/staticlib. Both can be kept and brought back.
 //!
 //! Without the Rattle toolchain (`rt`), set the variable `CPIM_LIB_DIR` to a folder with `libcpim.a` and `libcpim.stamp` from a machine that has it. They
-//! have to be of the same sources, or, where this package stands without the repository, of its version and for its src/raw.rs and src/raw.
+//! have to be of the same sources, or, where this package stands without the repository (by `cargo vendor` or `cargo package`), of its version and
+//! for its src/raw.rs and src/raw.
 //!
 //! The library is compiled for x86-64 Linux; the build script needs Rust 1.89.
 //!
