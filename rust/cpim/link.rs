@@ -219,7 +219,7 @@ fn rt(root: &Path, name: &str, words: &[String], lock: &File, said: &Path) -> Re
     }
     let failed = text.lines().find_map(|line| line.strip_prefix("rt: FAILED: ")?.split(' ').next()).unwrap_or(name);
     Err(format!(
-        "`rt` does not prove the library ({status}, at {failed}): run `rt staticlib {name}` in {}, or read target/log/{failed}.say there",
+        "`rt` does not prove the library ({status}, at {failed}): run `flock .rt-lock rt staticlib {name}` in {}, or read target/log/{failed}.say there",
         root.display()
     ))
 }
