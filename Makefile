@@ -6,7 +6,8 @@ SHELL := bash
 .SHELLFLAGS := -eu -o pipefail -c
 
 # One rt at a time: rt takes no lock, and the build scripts of rust/ run it too (rust/cpim/link.rs).
-LOCKED := flock .rt-lock
+# Standard input is a file, so that the lock never stands in its place, where rt's workers would not inherit it.
+LOCKED := </dev/null flock .rt-lock
 RT := $(LOCKED) rt
 
 # What is compared is what was proved here.
