@@ -1,10 +1,10 @@
-/* CPIM messages (RFC 3862) in lent stores: the functions of target/staticlib/libcpim.a (made by `rt staticlib cpim`) and their records.
+/* CPIM messages (RFC 3862) in lent stores: the functions of target/staticlib/libcpim.a (made by `flock .rt-lock rt staticlib cpim`) and their records.
  *
  * A slice crosses as its place, which is never NULL, and its length, which may be 0. Any record, any bytes and any lengths are answered; nothing is allocated. What is lent to be
  * written must overlap nothing else that is lent to the same call.
  *
  * A head store takes 256 bytes, and 16 and its name and value for each header, parameter and content header (at most 250,016 bytes); a reading may need
- * more on the way, where a content header is given twice, and 25 says how much; a header alone
+ * more than its message on the way, where a content header is given twice, and 25 says how much, never more than that; a header alone
  * takes 16 and its value, and 16 and its name and value for each parameter. The body stands at the start of its store.
  *
  * number 0: accepted. Any other is a refusal, and nothing is changed (but see cpim_parse and cpim_parse_head):

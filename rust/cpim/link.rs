@@ -85,7 +85,7 @@ fn built_here(root: &Path, name: &str, boundary: &str, out: &Path) -> Result<Lib
         // Without `rt` the toolchain that built it can only be believed.
         let fits = stamp_of(&bytes, toolchain.as_ref().unwrap_or(&said.toolchain));
         if (&said.sources, &said.toolchain, &said.library) == (&fits.sources, &fits.toolchain, &fits.library) {
-            // Version and boundary are for whoever takes the library elsewhere. Nothing here goes by them, so a stamp that cannot be written stays.
+            // Version and boundary are for whoever takes the library elsewhere. Nothing here goes by them; a stamp that is cut short by a full disk only has the library proved again.
             if said != fits && lock.is_ok() {
                 let _ = fs::write(&stamp, fits.text());
             }

@@ -46,7 +46,7 @@ impl Sources {
 }
 
 /// The package's own side of the boundary to the library, src/raw.rs and the files in src/raw: their digest, and what of them is there to watch.
-/// What a call means may change under one version.
+/// What is declared there may change under one version; a meaning that changes behind the same declarations is told by the version alone.
 pub fn boundary(package: &Path) -> Result<(String, Vec<PathBuf>), String> {
     let paths: Vec<PathBuf> =
         ["src/raw.rs", "src/raw"].map(|path| package.join(path)).into_iter().filter(|path| path.exists()).collect();

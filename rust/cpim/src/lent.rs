@@ -91,11 +91,11 @@ impl<'a> Message<'a> {
     }
 }
 
-impl<'a> Message<'a, &'a [u8]> {
+impl<'a, 'b> Message<'a, &'b [u8]> {
     /// Reads a text and leaves the body in it. Where the text has LFLF for its separator, the body is written to the buffer's start, and 26 carries
     /// its length where the buffer is too short; [`parse`](Message::parse) is the faster call for such a text, since it judges it once. A refused
     /// reading leaves zeros in the head store.
-    pub fn parse_in_place(text: &'a [u8], head: &'a mut [u8], buffer: &'a mut [u8]) -> Result<Self, Refusal> {
+    pub fn parse_in_place(text: &'b [u8], head: &'a mut [u8], buffer: &'b mut [u8]) -> Result<Self, Refusal> {
         let answer = raw::parse_head(text, head).accepted()?;
         let body = match answer.body_in(text) {
             Some(body) => body,
@@ -110,13 +110,13 @@ impl<'a> Message<'a, &'a [u8]> {
         Ok(Message { record: answer.record, head, body })
     }
 
-    /// The body where it stands, for as long as the text and the buffer are lent.
-    pub fn body_in_place(&self) -> &'a [u8] {
+    /// The body where it stands, for as long as the text and the buffer are lent: it outlives the message, and the head store may be used again.
+    pub fn body_in_place(&self) -> &'b [u8] {
         &self.body[..self.record.bodylen]
     }
 
     /// As [`held`](Message::held), with a body that is not to be written.
-    pub fn held_in_place(record: Record, head: &'a mut [u8], body: &'a [u8]) -> Result<Self, Refusal> {
+    pub fn held_in_place(record: Record, head: &'a mut [u8], body: &'b [u8]) -> Result<Self, Refusal> {
         judged(record, head, body)?;
         Ok(Message { record, head, body })
     }

@@ -174,6 +174,9 @@ fn a_body_in_its_place() {
         let len = placed.write(&mut out).unwrap();
         assert!(out[..len].ends_with(b"a: b\r\nd: e\r\n\r\nContent-type: c\r\n\r\nx\r\n\r\ny"));
         assert!(placed.comes_back());
+        let kept = placed.body_in_place();
+        store.fill(0);
+        assert_eq!(kept, b"x\r\n\r\ny", "the body outlives the message in its head store");
         assert_eq!(buffer == [4; 9], text == crlf, "a part of the text is copied nowhere");
     }
     let short = Message::parse_in_place(lf.as_bytes(), &mut store, &mut buffer[..5]).err();
