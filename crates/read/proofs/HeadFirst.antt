@@ -1,8 +1,8 @@
 -- A reading is the reading that leaves the body where it stands, and then 26: the same refusals in the same order, and the same message.
 -- Assumes nothing.
-use Prim.Native.Nat.{ℕ, _≤_}
+use Prim.Native.Nat.{ℕ}
 use mathlib.Core.Path.{_≡_, refl, sym, ap, _∙_}
-use mathlib.Core.Bool.{true, false, not}
+use mathlib.Core.Bool.{true, not}
 use lib.ListN.{length}
 use Rattle.format.specs.Bytes.{Bytes}
 use Rattle.format.specs.Limits.{maxBody}

@@ -10,9 +10,9 @@ use borrow.Author.Tests.{eq-eqb}
 use Rattle.format.specs.Bytes.{isEmpty, Bytes, ascii, if_then_else_, colon, equals, has, upTo, past, sameLetters}
 use Rattle.format.specs.Characters.{trim}
 use Rattle.format.specs.Limits.{maxBody}
-use Rattle.format.specs.Refusals.{Refusal, textTooLong, tooFewSections, noMessageCpim, lacksColon, badEscape, nameEmpty, nameTooLong, nameControl, nameReserved, valueTooLong, contentControl, paramNameEmpty, paramNameTooLong, paramNameReserved, paramValueTooLong, paramValueReserved, typeEmpty, typeTooLong, typeControl, tooManyHeaders, tooManyParams, tooManyContents, bodyTooLong, notUtf8, noRoom, table, Out, accepted, refused, numbers, Check, refuseIf, atMost, passes, _>>_, _>>=_}
+use Rattle.format.specs.Refusals.{Refusal, textTooLong, noMessageCpim, lacksColon, nameEmpty, nameTooLong, nameControl, nameReserved, valueTooLong, contentControl, paramNameEmpty, paramNameTooLong, paramNameReserved, paramValueTooLong, paramValueReserved, typeEmpty, typeTooLong, typeControl, tooManyHeaders, tooManyParams, tooManyContents, bodyTooLong, notUtf8, noRoom, table, Out, accepted, refused, numbers, Check, refuseIf, atMost, passes, _>>_, _>>=_}
 use Rattle.format.specs.Validators.{headerName, headerValue, contentValue, paramName, paramValue, contentType, utf8}
-use Rattle.format.specs.Message.{Entry, Header, Message}
+use Rattle.format.specs.Message.{Entry, Message}
 use Rattle.format.specs.Calls.{Stores, room, enough, bodyLength, headerCount, paramCount, contentCount, ifRoom, setParam, append, addContentHeader, setBody}
 use Rattle.format.specs.Reading.{each, readParam, checkedValue, readValue, readNameAndValue, readHeader, readType, readNamed, readContentLine, Parts, partsOf, textParts, readLine, readHeaderLine, readParts, readWith}
 use Rattle.format.proofs.Steps.{then-passed}

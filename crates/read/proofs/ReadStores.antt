@@ -1,32 +1,30 @@
 -- What reading starts from, and its end: the body measured. Assumes nothing.
 use Prim.Native.Nat.{ℕ, _^_, _≤_, _<_}
-use mathlib.Core.Path.{_≡_, refl, sym, ap, subst, _∙_}
+use mathlib.Core.Path.{_≡_, refl, sym, ap, _∙_}
 use mathlib.Core.Bool.{true}
 use mathlib.Core.List.{append-nil}
-use mathlib.Core.Option.{some}
 use native.Mathlib.Omega.{arith}
 use lib.ListN.{length, take}
-use Rattle.format.specs.Bytes.{Bytes, ascii, isEmpty, all, any, texts, total, pasted, over}
+use Rattle.format.specs.Bytes.{Bytes, ascii, isEmpty, all, any, texts, total, pasted}
 use Rattle.format.specs.Characters.{isAsciiControl}
 use Rattle.format.specs.Limits.{maxBody}
-use Rattle.format.specs.Refusals.{Refusal, refused, passes, refuseIf, atMost, _>>_}
+use Rattle.format.specs.Refusals.{passes, refuseIf, atMost, _>>_}
 use Rattle.format.specs.Validators.{contentType}
 use Rattle.format.specs.Message.{Message, ascending, increasing, need, valid}
 use Rattle.format.specs.Calls.{bodyLength, enough, setBody, withBody}
-use Rattle.format.specs.Reading.{blank, read}
+use Rattle.format.specs.Reading.{blank}
 use Rattle.format.specs.Layout.{Lent, Holds, layout, recordOf, emptyMessage}
-use Rattle.format.specs.Lending.{headLent, bothLent, lengthOf, lengths, numbersOf, zeroed, ReadInto, ReadLeaves, Parsed}
+use Rattle.format.specs.Lending.{headLent, numbersOf, ReadInto}
 use Rattle.format.specs.declared.Numbers.{Numbers}
 use Rattle.format.specs.declared.CpimMessage.{CpimMessage}
 use Rattle.format.specs.declared.Answer.{Answer}
-use Rattle.format.proofs.Answers.{space-short, space-enough}
+use Rattle.format.proofs.Answers.{space-enough}
 use Rattle.format.proofs.Characters.Chars.{utf8-ascii-text}
 use Rattle.format.proofs.Messages.Parts.{message-whole}
 use Rattle.octets.proofs.Paste.{take-front}
 use Rattle.message.proofs.BodyStored.{body-over, body-within}
 use Rattle.read_content_line.specs.Types.{typeBytes}
 use Rattle.read_content_line.proofs.Typing.{type-long, layout-type}
-use Rattle.read.proofs.LinesLoop.{zero-accepted, other-refused}
 use Rattle.read.specs.Heads.{anyBody}
 use Rattle.read.specs.Outcome.{ReadBy}
 use Rattle.read.proofs.Outcomes.{by-refused, by-passed, by-accepted}

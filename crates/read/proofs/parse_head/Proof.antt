@@ -1,12 +1,11 @@
 -- `read::parse_head` meets its contract: a refused reading leaves zeros, and the place behind the third separator is the body's where
 -- that stands in the text. Assumes nothing.
-use mathlib.Core.Path.{refl, sym, ap, _∙_}
+use mathlib.Core.Path.{refl, ap, _∙_}
 use Prim.Native.Nat.{ℕ}
 use lib.ListN.{replicate}
 use borrow.Author.Needs.{needs}
 use Rattle.format.specs.declared.Answer.{Answer}
 use Rattle.format.proofs.Typed.{the}
-use Rattle.read.specs.declared.HeadAnswer.{HeadAnswer}
 use Rattle.read.proofs.Endings.{head-refused, head-inside, head-outside}
 use Rattle.read.proofs.parse_head.Statement.{statement}
 use Rattle.read.proofs.parse_head.Tie as tie
