@@ -207,6 +207,6 @@ orReplaced g = if wellFormed g then g else replacement
 unfoldable pub replaced : Bytes → Bytes
 replaced s = texts orReplaced (chars s)
 
--- white space that is no control character: what trimming takes from the ends of an escaped value
+-- white space that is no control character: what trimming would take from the ends of a value written by `escape`
 unfoldable pub isLost : Bytes → Bool
 isLost g = isWhite g && not (isControl g)

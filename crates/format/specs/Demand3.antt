@@ -8,7 +8,7 @@ use mathlib.Core.List.{List, [], _∷_}
 use mathlib.Core.Option.{none, some}
 use lib.ListN.{length}
 use Rattle.format.specs.Bytes.{Bytes, ascii, isEmpty, all, sameLetters, over}
-use Rattle.format.specs.Characters.{isUtf8, isWhite, isLost, clearEnds}
+use Rattle.format.specs.Characters.{isUtf8, isWhite, clearEnds}
 use Rattle.format.specs.Refusals.{Out, accepted, refused, _carrying_}
 use Rattle.format.specs.Message.{Entry, Header, Message, need, validAlone, valid}
 use Rattle.format.specs.Calls.{Stores, Call, Lends, body-store, header-store, head-alone, lends, answer, new}
@@ -41,19 +41,15 @@ clearName h = clearEnds isWhite (h .name)
 unfoldable pub clearContent : Entry → Bool
 clearContent e = clearEnds isWhite (e .name) && clearEnds isWhite (e .value)
 
--- none but control characters at either end of a header value
-unfoldable pub clearValue : Header → Bool
-clearValue h = clearEnds isLost (h .value)
-
--- M has a header, no header parameter, a UTF-8 body, no content header called Content-type, no white space at either end of a header
--- name, content header name, content header value or content type, and none but control characters at either end of a header value.
+-- M has a header, no header parameter, a UTF-8 body, no content header called Content-type, and no white space at either end of a header
+-- name, content header name, content header value or content type. Header values come back whatever their ends (document 02, T-03).
 unfoldable pub comesBack : Message → Bool
 comesBack m =
     hasHeader (m .headers)
     && (all noParam (m .headers)
     && (isUtf8 (m .body)
     && (all notType (m .contents)
-    && (all clearName (m .headers) && (all clearContent (m .contents) && (clearEnds isWhite (m .type) && all clearValue (m .headers)))))))
+    && (all clearName (m .headers) && (all clearContent (m .contents) && clearEnds isWhite (m .type))))))
 
 -- M, reckoned from the calls and the stores' lengths.
 

@@ -1,12 +1,12 @@
--- Document 01, "Escaping" (RFC 3862 section 2.3), as the source has it. Stricter than the RFC: \' is refused. Laxer: \u takes a plus
--- sign and three digits. Assumes nothing.
+-- Document 01, "Escaping" (RFC 3862 section 2.3), as the source has it, and document 02, T-03: how the ends of a header value are written.
+-- Stricter than the RFC: \' is refused. Laxer: \u takes a plus sign and three digits. Assumes nothing.
 use Prim.Native.Nat.{ℕ, zero, suc, _+_, _-_, _*_, _/_, _%_}
 use mathlib.Core.Bool.{_&&_}
-use mathlib.Core.List.{[], _∷_, _++_}
+use mathlib.Core.List.{List, [], _∷_, _++_}
 use mathlib.Core.Option.{Option, none, some}
 use lib.Dec.{leb, ltb, eqb}
 use Rattle.format.specs.Bytes.{Bytes, if_then_else_, texts, backslash, quote, plus}
-use Rattle.format.specs.Characters.{chars, isControl, codePoint, isScalar, encoding}
+use Rattle.format.specs.Characters.{chars, isControl, codePoint, isScalar, encoding, isLost}
 
 -- a lower-case hexadecimal digit: 0 to 9, a to f
 unfoldable pub digit : ℕ → ℕ
@@ -44,6 +44,25 @@ escapeChar (b ∷ c ∷ t) = longForm (b ∷ c ∷ t)
 -- Written
 unfoldable pub escape : Bytes → Bytes
 escape v = texts escapeChar (chars v)
+
+-- a character at an end of a header value: white space that is no control character as `\u`, any other as everywhere
+unfoldable pub endForm : Bytes → Bytes
+endForm g = if isLost g then unicodeEscape (codePoint g) else escapeChar g
+
+-- characters of which the last is the value's last
+unfoldable pub lastForms : List Bytes → Bytes
+lastForms [] = []
+lastForms (g ∷ []) = endForm g
+lastForms (g ∷ h ∷ gs) = escapeChar g ++ lastForms (h ∷ gs)
+
+-- all characters of a value: the first at an end, and the last; where there is but one, it stands once
+unfoldable pub valueForms : List Bytes → Bytes
+valueForms [] = []
+valueForms (g ∷ gs) = endForm g ++ lastForms gs
+
+-- a header value as it is written in its line
+unfoldable pub valueText : Bytes → Bytes
+valueText v = valueForms (chars v)
 
 -- the value of a hexadecimal digit in either case
 unfoldable pub digitValue : ℕ → Option ℕ

@@ -1,11 +1,11 @@
--- Document 01, "Writing": the text T of a message. Assumes nothing.
+-- Document 01, "Writing", with header values as document 02, T-03, has them: the text T of a message. Assumes nothing.
 use Prim.Native.Nat.{ℕ}
 use mathlib.Core.List.{_++_}
 use mathlib.Core.Option.{Option, none, some}
 use lib.ListN.{length}
 use Rattle.format.specs.Bytes.{Bytes, ascii, texts, CRLF, over}
 use Rattle.format.specs.Characters.{replaced}
-use Rattle.format.specs.Escaping.{escape}
+use Rattle.format.specs.Escaping.{valueText}
 use Rattle.format.specs.Refusals.{Out, accepted, refused, nothingHeld, _>>_}
 use Rattle.format.specs.Message.{Entry, Header, Message}
 use Rattle.format.specs.Calls.{enough}
@@ -14,9 +14,9 @@ use Rattle.format.specs.Calls.{enough}
 unfoldable pub paramText : Entry → Bytes
 paramText e = ascii ";" ++ (e .name ++ (ascii "=" ++ e .value))
 
--- a header's line: name, `:`, the parameters, a space, the escaped value
+-- a header's line: name, `:`, the parameters, a space, the value, escaped and its ends with it
 unfoldable pub headerLine : Header → Bytes
-headerLine h = h .name ++ (ascii ":" ++ (texts paramText (h .params) ++ (ascii " " ++ escape (h .value))))
+headerLine h = h .name ++ (ascii ":" ++ (texts paramText (h .params) ++ (ascii " " ++ valueText (h .value))))
 
 -- a content header's line: name, `: `, value
 unfoldable pub contentLine : Entry → Bytes

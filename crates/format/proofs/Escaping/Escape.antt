@@ -97,11 +97,11 @@ four-read n l =
     )
     (ap some (four-number n l))
 
-unicode-read : (n : ℕ) (s : Bytes) → n < 65536 → isScalar n ≡ true → unescape (unicodeEscape n ++ s) ≡ inFront (encoding n) (unescape s)
+pub unicode-read : (n : ℕ) (s : Bytes) → n < 65536 → isScalar n ≡ true → unescape (unicodeEscape n ++ s) ≡ inFront (encoding n) (unescape s)
 unfolding unicodeEscape unescapeFrom escapeAt longEscape scalarEscape
 unicode-read n s l h = rw (four-read n l, h) refl
 
-unicode-visible : (n : ℕ) → all visible (unicodeEscape n) ≡ true
+pub unicode-visible : (n : ℕ) → all visible (unicodeEscape n) ≡ true
 unfolding unicodeEscape all
 unicode-visible n =
     rw
@@ -201,6 +201,9 @@ char-printable g w (bare e c p) = rw e (printable g w c)
 char-printable g w (coded b t e a k r) =
     rw e (all-map visible (leb 32) (λ x h. le-leb 32 x (omega (arith, leb-true 33 x (and-left (leb 33 x) (leb x 126) h)))) (b ∷ t) a)
 
+pub escape-char-printable : (g : Bytes) → wellFormed g ≡ true → all (leb 32) (escapeChar g) ≡ true
+escape-char-printable g w = char-printable g w (written g w)
+
 -- no line end in what is written
 pub escape-printable : (v : Bytes) → isUtf8 v ≡ true → all (leb 32) (escape v) ≡ true
 unfolding escape isUtf8
@@ -215,17 +218,17 @@ short-length : (b : ℕ) (o : Option ℕ) → length (shortOr o (b ∷ [])) ≤ 
 short-length b none = omega (arith, long-length b [])
 short-length b (some c) = omega arith
 
-char-length : (g : Bytes) → length (escapeChar g) ≤ 6 * length g
+pub escape-char-length : (g : Bytes) → length (escapeChar g) ≤ 6 * length g
 unfolding escapeChar
-char-length [] = omega arith
-char-length (b ∷ []) = omega (arith, short-length b (shortForm b))
-char-length (b ∷ c ∷ t) = long-length b (c ∷ t)
+escape-char-length [] = omega arith
+escape-char-length (b ∷ []) = omega (arith, short-length b (shortForm b))
+escape-char-length (b ∷ c ∷ t) = long-length b (c ∷ t)
 
 texts-length : (gs : List Bytes) → length (texts escapeChar gs) ≤ 6 * length (flat gs)
 unfolding texts
 texts-length [] = omega arith
 texts-length (g ∷ gs) =
-    omega (arith, char-length g, texts-length gs, length-append g (flat gs), length-append (escapeChar g) (texts escapeChar gs))
+    omega (arith, escape-char-length g, texts-length gs, length-append g (flat gs), length-append (escapeChar g) (texts escapeChar gs))
 
 -- six bytes at most for one
 pub escape-length : (v : Bytes) → length (escape v) ≤ 6 * length v

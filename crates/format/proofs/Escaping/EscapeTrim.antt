@@ -24,7 +24,7 @@ module _ (p : Bytes → Bool) where
   front-gone [] ys h = refl
   front-gone (x ∷ xs) ys h = rw (all-head p x xs h) (front-gone xs ys (all-tail p x xs h))
 
-  front-kept : (x : Bytes) (xs ys : List Bytes) → all (λ x. not (p x)) (x ∷ xs) ≡ true → dropFront p (x ∷ xs ++ ys) ≡ x ∷ xs ++ ys
+  pub front-kept : (x : Bytes) (xs ys : List Bytes) → all (λ x. not (p x)) (x ∷ xs) ≡ true → dropFront p (x ∷ xs ++ ys) ≡ x ∷ xs ++ ys
   unfolding dropFront
   front-kept x xs ys h = rw (not-true (p x) (all-head (λ x. not (p x)) x xs h)) refl
 
@@ -37,7 +37,7 @@ module _ (p : Bytes → Bool) where
   keep-kept x [] h = rw h refl
   keep-kept x (y ∷ ys) h = refl
 
-  back-kept : (xs : List Bytes) → all (λ x. not (p x)) xs ≡ true → dropBack p xs ≡ xs
+  pub back-kept : (xs : List Bytes) → all (λ x. not (p x)) xs ≡ true → dropBack p xs ≡ xs
   unfolding dropBack
   back-kept [] h = refl
   back-kept (x ∷ xs) h =
@@ -52,7 +52,7 @@ module _ (p : Bytes → Bool) where
   keep-behind x [] z zs = refl
   keep-behind x (y ∷ ys) z zs = refl
 
-  back-both : (xs ys : List Bytes) (z : Bytes) (zs : List Bytes) → dropBack p ys ≡ z ∷ zs → dropBack p (xs ++ ys) ≡ xs ++ (z ∷ zs)
+  pub back-both : (xs ys : List Bytes) (z : Bytes) (zs : List Bytes) → dropBack p ys ≡ z ∷ zs → dropBack p (xs ++ ys) ≡ xs ++ (z ∷ zs)
   unfolding dropBack
   back-both [] ys z zs h = h
   back-both (x ∷ xs) ys z zs h = rw (back-both xs ys z zs h) (keep-behind x xs z zs)
@@ -77,7 +77,7 @@ visible-not-white b v = rw (visible-none b v) (and-false (wellFormed (b ∷ []))
 visible-ascii : (b : ℕ) → visible b ≡ true → b < 128
 visible-ascii b v = omega (arith, leb-true b 126 (and-right (leb 33 b) (leb b 126) v))
 
-visible-chars : (s : Bytes) → all visible s ≡ true → all (λ g. not (isWhite g)) (chars s) ≡ true
+pub visible-chars : (s : Bytes) → all visible s ≡ true → all (λ g. not (isWhite g)) (chars s) ≡ true
 unfolding all
 visible-chars [] h = rw chars-nil refl
 visible-chars (b ∷ s) h =
@@ -97,12 +97,12 @@ spread [] = []
 spread (g ∷ gs) = inChars g ++ spread gs
 
 -- A lost character is written in white space only, any other without any.
-record Alike (g : Bytes) : Type 0 where
-  first : Bytes
-  rest : List Bytes
-  is : inChars g ≡ first ∷ rest
-  gone : isLost g ≡ true → all isWhite (first ∷ rest) ≡ true
-  kept : isLost g ≡ false → all (λ x. not (isWhite x)) (first ∷ rest) ≡ true
+pub record Alike (g : Bytes) : Type 0 where
+  pub first : Bytes
+  pub rest : List Bytes
+  pub is : chars (escapeChar g) ≡ first ∷ rest
+  pub gone : isLost g ≡ true → all isWhite (first ∷ rest) ≡ true
+  pub kept : isLost g ≡ false → all (λ x. not (isWhite x)) (first ∷ rest) ≡ true
 
 alike-of : (g : Bytes) → wellFormed g ≡ true → Written g → Alike g
 unfolding all isLost
@@ -125,7 +125,7 @@ alike-of g w (coded b t e a k r) =
       kept = λ h. ap (all (λ x. not (isWhite x))) (sym s) ∙ visible-chars (b ∷ t) a;
     }
 
-alike : (g : Bytes) → wellFormed g ≡ true → Alike g
+pub alike : (g : Bytes) → wellFormed g ≡ true → Alike g
 alike g w = alike-of g w (written g w)
 
 chars-spread : (gs : List Bytes) → all wellFormed gs ≡ true → chars (texts escapeChar gs) ≡ spread gs

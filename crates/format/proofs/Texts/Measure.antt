@@ -8,9 +8,9 @@ use mathlib.Core.Logic.{⊎-elim}
 use mathlib.Core.List.{List, [], _∷_}
 use native.Mathlib.Omega.{arith}
 use Rattle.format.specs.Bytes.{Bytes, ascii, if_then_else_, all, total, sameLetters}
-use Rattle.format.specs.Characters.{isWhite, isLost, trim, trimBy, clearEnds}
+use Rattle.format.specs.Characters.{isWhite, trim, clearEnds}
 use Rattle.format.specs.Message.{Entry, entry, Header, needEntry, needAlone, needHeader}
-use Rattle.format.specs.Demand3.{notType, clearName, clearContent, clearValue}
+use Rattle.format.specs.Demand3.{notType, clearName, clearContent}
 use Rattle.format.proofs.Lists.{bcase, and-intro, all-cons}
 use Rattle.format.proofs.Characters.Trim.{trim-clear, trim-shorter, trim-full}
 
@@ -31,7 +31,7 @@ module _ {A : Type 0} (f g : A → ℕ) (below : (x : A) → f x ≤ g x) where
 
 -- what is read back of a header without parameters
 abbrev pub keptHeader : Header → Header
-keptHeader h = record { name = trim (h .name); value = trimBy isLost (h .value); params = [] }
+keptHeader h = record { name = trim (h .name); value = h .value; params = [] }
 
 abbrev pub keptEntry : Entry → Entry
 keptEntry e = entry (trim (e .name)) (trim (e .value))
@@ -46,16 +46,13 @@ keptNeed e = if setsType (trim (e .name)) then 0 else needEntry (keptEntry e)
 
 header-below : (h : Header) → needHeader (keptHeader h) ≤ needHeader h
 unfolding needHeader needAlone total
-header-below h = omega (arith, trim-shorter isWhite (h .name), trim-shorter isLost (h .value))
+header-below h = omega (arith, trim-shorter isWhite (h .name))
 
-header-full : (h : Header) → needHeader (keptHeader h) ≡ needHeader h → (clearName h && clearValue h) ≡ true
-unfolding needHeader needAlone total clearName clearValue
+header-full : (h : Header) → needHeader (keptHeader h) ≡ needHeader h → clearName h ≡ true
+unfolding needHeader needAlone total clearName
 header-full h e =
     let a = trim-shorter isWhite (h .name) in
-    let b = trim-shorter isLost (h .value) in
-    and-intro (clearEnds isWhite (h .name)) (clearEnds isLost (h .value))
-    (trim-full isWhite (h .name) (omega arith))
-    (trim-full isLost (h .value) (omega arith))
+    trim-full isWhite (h .name) (omega arith)
 
 entry-below : (e : Entry) → keptNeed e ≤ needEntry e
 unfolding keptNeed needEntry
@@ -82,8 +79,8 @@ entry-full e h = ⊎-elim typed other (bcase (setsType (trim (e .name))))
         (and-intro (clearEnds isWhite (e .name)) (clearEnds isWhite (e .value)) n v)
 
 -- Where the headers read back need as much as the headers, none has lost anything; likewise the content headers.
-pub headers-full : (hs : List Header) → total needHeader hs ≤ total (λ h. needHeader (keptHeader h)) hs → all (λ h. clearName h && clearValue h) hs ≡ true
-headers-full hs k = total-full (λ h. needHeader (keptHeader h)) needHeader header-below (λ h. clearName h && clearValue h) header-full hs k
+pub headers-full : (hs : List Header) → total needHeader hs ≤ total (λ h. needHeader (keptHeader h)) hs → all clearName hs ≡ true
+headers-full hs k = total-full (λ h. needHeader (keptHeader h)) needHeader header-below clearName header-full hs k
 
 pub contents-full : (es : List Entry) → total needEntry es ≤ total keptNeed es → all (λ e. notType e && clearContent e) es ≡ true
 contents-full es k = total-full keptNeed needEntry entry-below (λ e. notType e && clearContent e) entry-full es k

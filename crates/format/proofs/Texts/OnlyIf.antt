@@ -14,7 +14,7 @@ use Rattle.format.specs.Message.{Header, Message, needEntry, needHeader,
 use Rattle.format.specs.Calls.{Stores, setBody}
 use Rattle.format.specs.Reading.{each, blank, readHeader, readHeaderLine, readContentLine, read}
 use Rattle.format.specs.Writing.{headerLine, contentLine, typeLine, write}
-use Rattle.format.specs.Demand3.{hasHeader, noParam, notType, clearName, clearContent, clearValue, comesBack}
+use Rattle.format.specs.Demand3.{hasHeader, noParam, notType, clearName, clearContent, comesBack}
 use Rattle.format.proofs.Lists.{clash, and-left, and-right, and-intro, all-head, all-tail, all-cons, all-map}
 use Rattle.format.proofs.Characters.Replaced.{replaced-only}
 use Rattle.format.proofs.Characters.Trim.{trim-full}
@@ -57,7 +57,7 @@ module _ (m : Message) (st : Stores) (v : valid m ≡ true) (a b : Message)
   unfolding all
   no-params = ap (all noParam) same-headers ∙ no-param-read st (m .headers) blank a ((message-parts m v) .headers .each) refl heads
 
-  clear-headers : all (λ h. clearName h && clearValue h) (m .headers) ≡ true
+  clear-headers : all clearName (m .headers) ≡ true
   unfolding total
   clear-headers =
       let w = message-parts m v in
@@ -93,9 +93,9 @@ module _ (m : Message) (st : Stores) (v : valid m ≡ true) (a b : Message)
       (and-intro _ _ no-params
       (and-intro _ _ utf8-body
       (and-intro _ _ (all-left notType clearContent (m .contents) clear-contents)
-      (and-intro _ _ (all-left clearName clearValue (m .headers) clear-headers)
+      (and-intro _ _ clear-headers
       (and-intro _ _ (all-right notType clearContent (m .contents) clear-contents)
-      (and-intro _ _ clear-type (all-right clearName clearValue (m .headers) clear-headers)))))))
+      clear-type)))))
 
 -- with no header, or with some
 by-headers : (m : Message) (st : Stores) (hs : List Header) → m .headers ≡ hs → valid m ≡ true → read (write m) st ≡ accepted m → comesBack m ≡ true

@@ -9,7 +9,7 @@ use lib.Dec.{ltb}
 use lib.ListN.{length, length-append}
 use borrow.Author.Tests.{not-true, le-ltb}
 use Rattle.format.specs.Bytes.{isEmpty, Bytes, ascii, all, total, before, sameLetters}
-use Rattle.format.specs.Characters.{isWhite, isLost, clearEnds}
+use Rattle.format.specs.Characters.{isWhite, clearEnds}
 use Rattle.format.specs.Limits.{maxBody, maxHeaders, maxContents}
 use Rattle.format.specs.Refusals.{tooManyHeaders, tooManyContents, bodyTooLong, noRoom, tooShort, accepted, refuseIf, atMost}
 use Rattle.format.specs.Validators.{headerName, contentValue, contentType}
@@ -18,7 +18,7 @@ use Rattle.format.specs.Calls.{Stores, room, bodyLength, headerCount, co
 use Rattle.format.specs.Calls as Calls
 use Rattle.format.specs.Writing.{headerLine, contentLine, typeLine}
 use Rattle.format.specs.Reading.{each, readHeader, readType, readNamed, readContentLine, readLine, readHeaderLine}
-use Rattle.format.specs.Demand3.{noParam, notType, clearName, clearContent, clearValue}
+use Rattle.format.specs.Demand3.{noParam, notType, clearName, clearContent}
 use Rattle.format.proofs.Lists.{and-left, and-right, all-head, all-tail, total-append}
 use Rattle.format.proofs.Splitting.Lines.{line}
 use Rattle.format.proofs.Texts.Last.{insert-last, ascending-last, increasing-last, put-last}
@@ -39,13 +39,13 @@ no-params h n = go (h .params) n
     go (p ∷ ps) k = absurd (false≢true k)
 
 -- a header that meets its part of the condition comes back from its line
-pub header-back : (h : Header) → validHeader h ≡ true → noParam h ≡ true → clearName h ≡ true → clearValue h ≡ true → readHeader (headerLine h) ≡ accepted h
-unfolding clearName clearValue
-header-back h v n c d =
+pub header-back : (h : Header) → validHeader h ≡ true → noParam h ≡ true → clearName h ≡ true → readHeader (headerLine h) ≡ accepted h
+unfolding clearName
+header-back h v n c =
     let w = header-parts h v in
     let p = no-params h n in
     read-header-plain h v p
-    ∙ rw (trim-clear isWhite (h .name) c, trim-clear isLost (h .value) d, ← p) (then-passed (headerName (h .name)) (accepted h) (w .named))
+    ∙ rw (trim-clear isWhite (h .name) c, ← p) (then-passed (headerName (h .name)) (accepted h) (w .named))
 
 line-filled : (l : Bytes) → line l ≡ true → isEmpty l ≡ false
 unfolding line isEmpty
@@ -89,19 +89,19 @@ unfolding readHeaderLine readLine
 header-step st hs h t b l r a =
     rw (line-filled (headerLine h) l) (bind-passed (readHeader (headerLine h)) (λ k. append k st (parts hs t [] b)) h r ∙ a)
 
-pub headers-back : (st : Stores) (hs ks : List Header) (t b : Bytes) → all validHeader ks ≡ true → all noParam ks ≡ true → all clearName ks ≡ true → all clearValue ks ≡ true
+pub headers-back : (st : Stores) (hs ks : List Header) (t b : Bytes) → all validHeader ks ≡ true → all noParam ks ≡ true → all clearName ks ≡ true
     → ascending nameOf (hs ++ ks) ≡ true → length (hs ++ ks) ≤ 50 → 256 + total needHeader (hs ++ ks) ≤ st .head
     → each (readHeaderLine readHeader st) (map headerLine ks) (parts hs t [] b) ≡ accepted (parts (hs ++ ks) t [] b)
 unfolding each total need
-headers-back st hs [] t b v n c d o l r = rw (append-nil hs) refl
-headers-back st hs (k ∷ ks) t b v n c d o l r =
+headers-back st hs [] t b v n c o l r = rw (append-nil hs) refl
+headers-back st hs (k ∷ ks) t b v n c o l r =
     let e = append-assoc hs (k ∷ []) ks in
     let v1 = all-head validHeader k ks v in
     let room : need (parts (hs ++ (k ∷ [])) t [] b) ≤ st .head = omega (arith, total-append needHeader hs (k ∷ []), total-append needHeader hs (k ∷ ks)) in
     let last = append-last st hs k t b (ascending-last nameOf hs k ks o) (omega (arith, length-append hs (k ∷ ks))) room in
-    let back = header-back k v1 (all-head noParam k ks n) (all-head clearName k ks c) (all-head clearValue k ks d) in
+    let back = header-back k v1 (all-head noParam k ks n) (all-head clearName k ks c) in
     let ih =
-    headers-back st (hs ++ (k ∷ [])) ks t b (all-tail validHeader k ks v) (all-tail noParam k ks n) (all-tail clearName k ks c) (all-tail clearValue k ks d)
+    headers-back st (hs ++ (k ∷ [])) ks t b (all-tail validHeader k ks v) (all-tail noParam k ks n) (all-tail clearName k ks c)
     (rw e o) (rw e l) (rw e r)
     in
     bind-passed (readHeaderLine readHeader st (headerLine k) (parts hs t [] b)) _ (parts (hs ++ (k ∷ [])) t [] b) (header-step st hs k t b (header-line-is k v1) back last)

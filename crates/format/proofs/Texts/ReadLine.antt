@@ -10,7 +10,7 @@ use lib.ListN.{length}
 use borrow.Author.Tests.{eqb-false, ne-eqb}
 use Rattle.format.specs.Bytes.{Bytes, ascii, colon, semicolon, space, any, texts, has, lower, sameLetters}
 use Rattle.format.specs.Characters.{trailIn, fits, wellFormed, matched, charsFrom, chars, codePoint, isWhite, dropFront, dropBack, trimBy, isUtf8, trim, isLost}
-use Rattle.format.specs.Escaping.{escape}
+use Rattle.format.specs.Escaping.{valueText}
 use Rattle.format.specs.Limits.{maxValue}
 use Rattle.format.specs.Refusals.{lacksColon, valueTooLong, accepted, refuseIf, passes, _>>_, _>>=_}
 use Rattle.format.specs.Validators.{reservedInName, headerName, headerValue}
@@ -22,7 +22,7 @@ use Rattle.format.proofs.Lists.{or-false-left, or-false-right}
 use Rattle.format.proofs.Characters.Chars.{chars-ascii}
 use Rattle.format.proofs.Splitting.Split.{split-none, occurs-clear, has-at, upTo-at, past-at}
 use Rattle.format.proofs.Characters.Trim.{trim-shorter}
-use Rattle.format.proofs.Escaping.EscapeTrim.{escape-trim}
+use Rattle.format.proofs.Escaping.ValueText.{value-read, value-trim}
 use Rattle.format.proofs.Steps.{then-accepted, then-passed, bind-accepted, accepted-same, refuseUnless-passed, atMost-passed}
 use Rattle.format.proofs.Messages.Checked.{name-checked, value-checked, none-none}
 use Rattle.format.proofs.Messages.Parts.{header-parts, content-parts}
@@ -57,7 +57,7 @@ trim-space s = rw (chars-ascii space s (omega arith), space-white) refl
 
 -- what is behind the name of a header's line: the parameters, a space, the escaped value
 abbrev pub behindColon : Header → Bytes
-behindColon h = texts paramText (h .params) ++ (ascii " " ++ escape (h .value))
+behindColon h = texts paramText (h .params) ++ (ascii " " ++ valueText (h .value))
 
 -- Left of the colon stands the name alone, so no parameter is read, whatever the header has.
 pub read-header-line : (h : Header) → validHeader h ≡ true
@@ -75,23 +75,17 @@ read-header-line h v =
     (refuseUnless-passed (has colon (h .name ++ (colon ∷ behindColon h))) lacksColon (has-at colon (h .name) (behindColon h)))
     ∙ rw (upTo-at colon (h .name) (behindColon h) c, past-at colon (h .name) (behindColon h) c, split-none (semicolon ∷ []) (h .name) (occurs-clear semicolon [] (h .name) s)) refl
 
--- what is trimmed stays within the limit
-pub value-trimmed : (p : Bytes → Bool) (v : Bytes) → passes (headerValue v) ≡ true → passes (headerValue (trimBy p v)) ≡ true
-unfolding headerValue
-value-trimmed p v h = atMost-passed maxValue valueTooLong (length (trimBy p v)) (omega (arith, value-checked v h, trim-shorter p v))
-
 -- the value of a header without parameters
-pub read-value : (v : Bytes) → passes (headerValue v) ≡ true → isUtf8 v ≡ true → readValue (space ∷ escape v) ≡ accepted (trimBy isLost v)
+pub read-value : (v : Bytes) → passes (headerValue v) ≡ true → isUtf8 v ≡ true → readValue (space ∷ valueText v) ≡ accepted v
 unfolding readValue checkedValue
 read-value v h u =
-    rw (trim-space (escape v), escape-trim v u)
-    (then-passed (headerValue (trimBy isLost v)) (accepted (trimBy isLost v)) (value-trimmed isLost v h))
+    rw (trim-space (valueText v), value-trim v u, value-read v u) (then-passed (headerValue v) (accepted v) h)
 
 pub read-header-plain : (h : Header) → validHeader h ≡ true → h .params ≡ []
     → readHeader (headerLine h)
     ≡ do
       headerName (trim (h .name))
-      accepted (record { name = trim (h .name); value = trimBy isLost (h .value); params = [] })
+      accepted (record { name = trim (h .name); value = h .value; params = [] })
 unfolding texts _>>=_
 read-header-plain h v e =
     let w = header-parts h v in

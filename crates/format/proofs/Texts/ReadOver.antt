@@ -10,7 +10,7 @@ use native.Mathlib.Omega.{arith}
 use borrow.Author.Tests.{not-true}
 use Rattle.format.specs.Bytes.{isEmpty, Bytes, ascii, if_then_else_, colon, all, total, texts, has, upTo, past}
 use Rattle.format.specs.Characters.{isWhite, trim, clearEnds}
-use Rattle.format.specs.Escaping.{escape}
+use Rattle.format.specs.Escaping.{valueText}
 use Rattle.format.specs.Refusals.{Out, accepted, _>>=_}
 use Rattle.format.specs.Validators.{headerName, contentType}
 use Rattle.format.specs.Message.{Entry, entry, Header, nameOf, Message, insert, put, needEntry, needHeader, validHeader, validContent}
@@ -70,7 +70,7 @@ header-filled (b ∷ n) s = refl
 
 pub header-line-filled : (h : Header) → isEmpty (headerLine h) ≡ false
 unfolding headerLine
-header-line-filled h = header-filled (h .name) (texts paramText (h .params) ++ (ascii " " ++ escape (h .value)))
+header-line-filled h = header-filled (h .name) (texts paramText (h .params) ++ (ascii " " ++ valueText (h .value)))
 
 no-entries : (es : List Entry) → isEmpty es ≡ true → es ≡ []
 unfolding isEmpty

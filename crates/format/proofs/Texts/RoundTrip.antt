@@ -17,10 +17,10 @@ use Rattle.format.specs.Calls.{Stores, room, setBody}
 use Rattle.format.specs.Calls as Calls
 use Rattle.format.specs.Writing.{headerLine, contentLine, typeLine, firstLine, ended, write}
 use Rattle.format.specs.Reading.{each, blank, readHeader, readContentLine, readHeaderLine, read}
-use Rattle.format.specs.Demand3.{hasHeader, noParam, notType, clearName, clearContent, clearValue, comesBack, RoomFor}
+use Rattle.format.specs.Demand3.{hasHeader, noParam, notType, clearName, clearContent, comesBack, RoomFor}
 use Rattle.format.proofs.Lists.{and-left, and-right, all-head, all-tail}
 use Rattle.format.proofs.Characters.Replaced.{replaced-same}
-use Rattle.format.proofs.Escaping.Escape.{escape-length}
+use Rattle.format.proofs.Escaping.ValueText.{value-length}
 use Rattle.format.proofs.Steps.{then-passed, bind-passed, refuseIf-passed, atMost-passed}
 use Rattle.format.proofs.Messages.Checked.{name-checked, type-checked, content-checked, value-checked}
 use Rattle.format.proofs.Messages.Parts.{type-whole, Within, header-parts, content-parts, message-parts}
@@ -35,7 +35,7 @@ header-line-length h v n =
     let w = header-parts h v in
     let a = (name-checked (h .name) (w .named)) .short in
     let b = value-checked (h .value) (w .rest .valued) in
-    rw (no-params h n) (simp length-append (omega (arith, escape-length (h .value))))
+    rw (no-params h n) (simp length-append (omega (arith, value-length (h .value))))
 
 content-line-length : (e : Entry) → validContent e ≡ true → length (ended (contentLine e)) ≤ 1156
 unfolding contentLine
@@ -90,7 +90,6 @@ pub record ComesBack (m : Message) : Type 0 where
   pub clear-names : all clearName (m .headers) ≡ true
   pub clear-contents : all clearContent (m .contents) ≡ true
   pub clear-type : clearEnds isWhite (m .type) ≡ true
-  pub clear-values : all clearValue (m .headers) ≡ true
 
 pub comes-back : (m : Message) → comesBack m ≡ true → ComesBack m
 unfolding comesBack
@@ -102,22 +101,19 @@ comes-back m h =
     let e = all clearName (m .headers) in
     let f = all clearContent (m .contents) in
     let g = clearEnds isWhite (m .type) in
-    let i = all clearValue (m .headers) in
-    let h1 = and-right a (b && (c && (d && (e && (f && (g && i)))))) h in
-    let h2 = and-right b (c && (d && (e && (f && (g && i))))) h1 in
-    let h3 = and-right c (d && (e && (f && (g && i)))) h2 in
-    let h4 = and-right d (e && (f && (g && i))) h3 in
-    let h5 = and-right e (f && (g && i)) h4 in
-    let h6 = and-right f (g && i) h5 in
+    let h1 = and-right a (b && (c && (d && (e && (f && g))))) h in
+    let h2 = and-right b (c && (d && (e && (f && g)))) h1 in
+    let h3 = and-right c (d && (e && (f && g))) h2 in
+    let h4 = and-right d (e && (f && g)) h3 in
+    let h5 = and-right e (f && g) h4 in
     record {
-      has-header = and-left a (b && (c && (d && (e && (f && (g && i)))))) h;
-      no-param = and-left b (c && (d && (e && (f && (g && i))))) h1;
-      body-utf8 = and-left c (d && (e && (f && (g && i)))) h2;
-      no-type = and-left d (e && (f && (g && i))) h3;
-      clear-names = and-left e (f && (g && i)) h4;
-      clear-contents = and-left f (g && i) h5;
-      clear-type = and-left g i h6;
-      clear-values = and-right g i h6;
+      has-header = and-left a (b && (c && (d && (e && (f && g))))) h;
+      no-param = and-left b (c && (d && (e && (f && g)))) h1;
+      body-utf8 = and-left c (d && (e && (f && g))) h2;
+      no-type = and-left d (e && (f && g)) h3;
+      clear-names = and-left e (f && g) h4;
+      clear-contents = and-left f g h5;
+      clear-type = and-right f g h5;
     }
 
 -- all that is read from the lines of T
@@ -133,7 +129,7 @@ lines-back m ks st e w c r =
     let plain = ascii "text/plain" in
     let p = refuseIf-passed (ltb (st .head) (need blank)) (noRoom (need blank)) (le-ltb (st .head) (need blank) (omega arith)) in
     let hs =
-    headers-back st [] (m .headers) plain [] (w .headers .each) (c .no-param) (c .clear-names) (c .clear-values) (w .headers .ordered) (w .headers .few) (omega arith)
+    headers-back st [] (m .headers) plain [] (w .headers .each) (c .no-param) (c .clear-names) (w .headers .ordered) (w .headers .few) (omega arith)
     in
     let es =
     contents-back st (m .headers) [] (m .contents) (m .type) [] (w .contents .each) (c .no-type) (c .clear-contents) (w .contents .ordered) (w .contents .few)

@@ -7,7 +7,7 @@ use lib.Dec.{leb, ltb}
 use lib.ListN.{length}
 use Rattle.format.specs.Bytes.{isEmpty, Bytes, ascii, cr, lf, CRLF, CRLFCRLF, all, any, texts, begins, occurs, has, lower, pieces, split, join}
 use Rattle.format.specs.Characters.{isAsciiControl, isUtf8, replaced}
-use Rattle.format.specs.Escaping.{escape}
+use Rattle.format.specs.Escaping.{valueText}
 use Rattle.format.specs.Limits.{maxText}
 use Rattle.format.specs.Refusals.{accepted, Out, textTooLong, noMessageCpim, notUtf8, atMost, refuseIf, passes, _>>_, _>>=_}
 use Rattle.format.specs.Validators.{reservedInParamName, reservedInParamValue, utf8}
@@ -20,7 +20,7 @@ use Rattle.format.proofs.Characters.Chars.{utf8-append, utf8-ascii-text
 use Rattle.format.proofs.Characters.Replaced.{replaced-utf8}
 use Rattle.format.proofs.Splitting.Split.{join-split, split-line, occurs-at}
 use Rattle.format.proofs.Splitting.Lines.{line, section-cut, lines-many, lines-one, join-block}
-use Rattle.format.proofs.Escaping.Escape.{escape-utf8, escape-printable}
+use Rattle.format.proofs.Escaping.ValueText.{value-utf8, value-printable}
 use Rattle.format.proofs.Steps.{then-bind, then-passed, refuseUnless-passed}
 use Rattle.format.proofs.Messages.Checked.{name-checked, type-checked, content-checked, param-name-checked, param-value-checked, none-all, printable, all-printable}
 use Rattle.format.proofs.Messages.Parts.{type-whole, param-parts, header-parts, content-parts, message-parts, type-parts}
@@ -49,13 +49,13 @@ unfolding headerLine all
 header-line-is h v =
     let w = header-parts h v in
     let n = name-checked (h .name) (w .named) in
-    let value = ascii " " ++ escape (h .value) in
+    let value = ascii " " ++ valueText (h .value) in
     let params = texts paramText (h .params) in
     line-append (h .name) (ascii ":" ++ (params ++ value)) (n .filled) (all-printable (h .name) (n .clear))
     (both-high (ascii ":") (params ++ value) refl
     (both-high params value
     (all-texts (leb 32) paramText (h .params) (all-map validParam (λ e. all (leb 32) (paramText e)) param-high (h .params) (w .rest .params .each)))
-    (both-high (ascii " ") (escape (h .value)) refl (escape-printable (h .value) (w .rest .value-utf8)))))
+    (both-high (ascii " ") (valueText (h .value)) refl (value-printable (h .value) (w .rest .value-utf8)))))
 
 pub content-line-is : (e : Entry) → validContent e ≡ true → line (contentLine e) ≡ true
 unfolding contentLine all
@@ -163,13 +163,13 @@ pub header-line-utf8 : (h : Header) → validHeader h ≡ true → isUtf8 (heade
 unfolding headerLine all
 header-line-utf8 h v =
     let w = header-parts h v in
-    let value = ascii " " ++ escape (h .value) in
+    let value = ascii " " ++ valueText (h .value) in
     let params = texts paramText (h .params) in
     both-utf8 (h .name) (ascii ":" ++ (params ++ value)) (w .name-utf8)
     (plain-utf8 (ascii ":") (params ++ value) refl
     (both-utf8 params value
     (utf8-texts paramText (h .params) (all-map validParam (λ e. isUtf8 (paramText e)) param-utf8 (h .params) (w .rest .params .each)))
-    (plain-utf8 (ascii " ") (escape (h .value)) refl (escape-utf8 (h .value) (w .rest .value-utf8)))))
+    (plain-utf8 (ascii " ") (valueText (h .value)) refl (value-utf8 (h .value) (w .rest .value-utf8)))))
 
 pub content-line-utf8 : (e : Entry) → validContent e ≡ true → isUtf8 (contentLine e) ≡ true
 unfolding contentLine all
