@@ -1,4 +1,4 @@
 pub mod Unescape
 pub mod Escape
-pub mod EscapeTrim
+pub mod EndForm
 pub mod ValueText

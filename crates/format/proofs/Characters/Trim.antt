@@ -43,7 +43,7 @@ all-flat q (g ∷ gs) h =
 
 module _ (p : Bytes → Bool) where
   -- what holds of every character holds of those kept
-  pub front-all : (q : Bytes → Bool) (gs : List Bytes) → all q gs ≡ true → all q (dropFront p gs) ≡ true
+  front-all : (q : Bytes → Bool) (gs : List Bytes) → all q gs ≡ true → all q (dropFront p gs) ≡ true
   unfolding dropFront
   front-all q [] h = h
   front-all q (g ∷ gs) h =
@@ -54,7 +54,7 @@ module _ (p : Bytes → Bool) where
   keep-all q g [] h k = ⊎-elim (λ e. rw e refl) (λ e. rw e (all-cons q g [] h refl)) (bcase (p g))
   keep-all q g (x ∷ xs) h k = all-cons q g (x ∷ xs) h k
 
-  pub back-all : (q : Bytes → Bool) (gs : List Bytes) → all q gs ≡ true → all q (dropBack p gs) ≡ true
+  back-all : (q : Bytes → Bool) (gs : List Bytes) → all q gs ≡ true → all q (dropBack p gs) ≡ true
   unfolding dropBack
   back-all q [] h = h
   back-all q (g ∷ gs) h = keep-all q g (dropBack p gs) (all-head q g gs h) (back-all q gs (all-tail q g gs h))

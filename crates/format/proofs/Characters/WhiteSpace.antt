@@ -1,7 +1,8 @@
 -- Document 01, "Characters": the 25 white-space numbers are the ranges that the document lists. The lists agree by computation;
--- that a number is among the numbers of ranges exactly when it is within one of them is one law over any ranges. Assumes nothing.
+-- that a number is among the numbers of ranges exactly when it is within one of them is one law over any ranges. What holds of the 25 numbers
+-- holds of every white-space character. Assumes nothing.
 use Prim.Native.Nat.{ℕ, zero, suc, _+_, _-_, _≤_, _<_}
-use mathlib.Core.Path.{_≡_, refl, sym, _∙_}
+use mathlib.Core.Path.{_≡_, refl, sym, ap, _∙_}
 use mathlib.Core.Bool.{Bool, true, false, _||_, or-assoc, false≢true}
 use mathlib.Core.Logic.{⊎-elim}
 use mathlib.Core.List.{List, [], _∷_, _++_}
@@ -9,9 +10,9 @@ use native.Mathlib.Omega.{arith}
 use lib.Dec.{eqb}
 use lib.ListN.{length}
 use borrow.Author.Tests.{eqb-true, eqb-false}
-use Rattle.format.specs.Bytes.{any}
-use Rattle.format.specs.Characters.{Range, within, whiteSpace, whiteRanges}
-use Rattle.format.proofs.Lists.{bcase}
+use Rattle.format.specs.Bytes.{Bytes, all, any}
+use Rattle.format.specs.Characters.{Range, within, wellFormed, codePoint, whiteSpace, whiteRanges, isWhite}
+use Rattle.format.proofs.Lists.{bcase, and-right, all-head, all-tail}
 use Rattle.format.proofs.Characters.Table.{within-low, within-high, within-intro}
 
 -- k numbers from a on
@@ -77,3 +78,17 @@ listed-within n (r ∷ rs) =
 
 pub white-within : (n : ℕ) → any (eqb n) whiteSpace ≡ any (within n) whiteRanges
 white-within n = rw (← white-space-ranges) (listed-within n whiteRanges)
+
+-- what holds of every number of a list holds of a number among them
+among-all : (q : ℕ → Bool) (n : ℕ) (ns : List ℕ) → all q ns ≡ true → any (eqb n) ns ≡ true → q n ≡ true
+unfolding any
+among-all q n [] h i = absurd (false≢true i)
+among-all q n (m ∷ ns) h i =
+    ⊎-elim
+    (λ e. ap q (eqb-true n m e) ∙ all-head q m ns h)
+    (λ e. among-all q n ns (all-tail q m ns h) (rw e at i))
+    (bcase (eqb n m))
+
+pub white-all : (q : ℕ → Bool) → all q whiteSpace ≡ true → (g : Bytes) → isWhite g ≡ true → q (codePoint g) ≡ true
+unfolding isWhite
+white-all q h g w = among-all q (codePoint g) whiteSpace h (and-right (wellFormed g) (any (eqb (codePoint g)) whiteSpace) w)

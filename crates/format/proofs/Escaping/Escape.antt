@@ -1,4 +1,5 @@
--- What is written reads back, is UTF-8, has no control byte, and has at most six bytes for one.
+-- A character as `escape` writes it reads back, is UTF-8, has no control byte, and has at most six bytes for one. A text reads back, and has
+-- at most six bytes for one.
 -- One fact about each character carries it: written bare it is no control, else it is written in visible ASCII that reads as the character.
 use Prim.Native.Nat.{ℕ, suc, _+_, _*_, _/_, _%_, _≤_, _<_}
 use mathlib.Core.Path.{_≡_, refl, sym, ap, _∙_}
@@ -13,8 +14,8 @@ use borrow.Author.Tests.{eqb-true, leb-true, ltb-true, ltb-false, ne-eqb, le-leb
 use Rattle.format.specs.Bytes.{Bytes, if_then_else_, all, any, texts, backslash, plus}
 use Rattle.format.specs.Characters.{chars, trailIn, fits, wellFormed, isUtf8, flat, within, _to_, codePoint, encoding, isScalar, isWhite, isControl, isControlCode, isLost}
 use Rattle.format.specs.Escaping.{digit, unicodeEscape, shortForm, longForm, shortOr, escapeChar, escape, digitValue, fourDigits, scalarEscape, longEscape, oneByte, shortEscape, escapeAt, inFront, unescapeFrom, unescape}
-use Rattle.format.proofs.Lists.{bcase, clash, and-left, and-right, and-intro, or-false-left, all-head, all-tail, all-map, all-texts}
-use Rattle.format.proofs.Characters.Chars.{flat-chars, utf8-whole, utf8-texts, utf8-ascii-text, whole-high}
+use Rattle.format.proofs.Lists.{bcase, clash, and-left, and-right, and-intro, or-false-left, all-head, all-tail, all-map}
+use Rattle.format.proofs.Characters.Chars.{flat-chars, utf8-whole, utf8-ascii-text, whole-high}
 use Rattle.format.proofs.Escaping.Unescape.{branch, nothing, plain, plain-read, whole-plain}
 use Rattle.format.proofs.Characters.Scalars.{encoding-codePoint, whole-scalar}
 
@@ -24,6 +25,13 @@ visible c = leb 33 c && leb c 126
 
 visible-intro : (c : ℕ) → 33 ≤ c → c ≤ 126 → visible c ≡ true
 visible-intro c h k = and-intro (leb 33 c) (leb c 126) (le-leb 33 c h) (le-leb c 126 k)
+
+-- such a text is UTF-8, and none of its bytes is a control
+pub visible-utf8 : (s : Bytes) → all visible s ≡ true → isUtf8 s ≡ true
+visible-utf8 s h = utf8-ascii-text s (all-map visible (λ b. ltb b 128) (λ b v. lt-ltb b 128 (omega (arith, leb-true b 126 (and-right (leb 33 b) (leb b 126) v)))) s h)
+
+pub visible-printable : (s : Bytes) → all visible s ≡ true → all (leb 32) s ≡ true
+visible-printable s h = all-map visible (leb 32) (λ b v. le-leb 32 b (omega (arith, leb-true 33 b (and-left (leb 33 b) (leb b 126) v)))) s h
 
 -- What holds of a character that has a short form.
 record Short (b c : ℕ) : Type 0 where
@@ -97,9 +105,14 @@ four-read n l =
     )
     (ap some (four-number n l))
 
-pub unicode-read : (n : ℕ) (s : Bytes) → n < 65536 → isScalar n ≡ true → unescape (unicodeEscape n ++ s) ≡ inFront (encoding n) (unescape s)
+unicode-read : (n : ℕ) (s : Bytes) → n < 65536 → isScalar n ≡ true → unescape (unicodeEscape n ++ s) ≡ inFront (encoding n) (unescape s)
 unfolding unicodeEscape unescapeFrom escapeAt longEscape scalarEscape
 unicode-read n s l h = rw (four-read n l, h) refl
+
+-- a character that is written as `\u` reads back
+pub unicode-char-read : (g s : Bytes) → wellFormed g ≡ true → codePoint g < 65536 → unescape (unicodeEscape (codePoint g) ++ s) ≡ inFront g (unescape s)
+unicode-char-read g s w l =
+    unicode-read (codePoint g) s l (whole-scalar g w) ∙ ap (λ (c : Bytes). inFront c (unescape s)) (encoding-codePoint g w)
 
 pub unicode-visible : (n : ℕ) → all visible (unicodeEscape n) ≡ true
 unfolding unicodeEscape all
@@ -137,7 +150,7 @@ long-written g w p e = ⊎-elim control (λ t. bare (e ∙ rw t refl) t p) (bcas
     control : isControl g ≡ true → Written g
     control t =
         coded backslash _ (e ∙ ap (λ (c : Bool). if c then unicodeEscape (codePoint g) else g) t) (unicode-visible (codePoint g)) (control-kept g t)
-        (λ s. unicode-read (codePoint g) s (control-code g t) (whole-scalar g w) ∙ ap (λ (c : Bytes). inFront c (unescape s)) (encoding-codePoint g w))
+        (λ s. unicode-char-read g s w (control-code g t))
 
 short-written : (b : ℕ) (o : Option ℕ) → shortForm b ≡ o → wellFormed (b ∷ []) ≡ true → Written (b ∷ [])
 unfolding escapeChar all unescapeFrom
@@ -177,15 +190,10 @@ unescape-escape v u = unescape-texts (chars v) u ∙ ap some (flat-chars v)
 
 char-utf8 : (g : Bytes) → wellFormed g ≡ true → Written g → isUtf8 (escapeChar g) ≡ true
 char-utf8 g w (bare e c p) = rw e (utf8-whole g w)
-char-utf8 g w (coded b t e a k r) =
-    rw e (utf8-ascii-text (b ∷ t) (all-map visible (λ b. ltb b 128) (λ x h. lt-ltb x 128 (omega (arith, leb-true x 126 (and-right (leb 33 x) (leb x 126) h)))) (b ∷ t) a))
+char-utf8 g w (coded b t e a k r) = rw e (visible-utf8 (b ∷ t) a)
 
 pub escape-char-utf8 : (g : Bytes) → wellFormed g ≡ true → isUtf8 (escapeChar g) ≡ true
 escape-char-utf8 g w = char-utf8 g w (written g w)
-
-pub escape-utf8 : (v : Bytes) → isUtf8 v ≡ true → isUtf8 (escape v) ≡ true
-unfolding escape isUtf8
-escape-utf8 v u = utf8-texts escapeChar (chars v) (all-map wellFormed (λ g. isUtf8 (escapeChar g)) escape-char-utf8 (chars v) u)
 
 -- a character that is no control has no byte below 32
 printable : (g : Bytes) → wellFormed g ≡ true → isControl g ≡ false → all (leb 32) g ≡ true
@@ -198,17 +206,10 @@ printable (a ∷ b ∷ t) w c = all-map (leb 128) (leb 32) (λ x h. le-leb 32 x 
 
 char-printable : (g : Bytes) → wellFormed g ≡ true → Written g → all (leb 32) (escapeChar g) ≡ true
 char-printable g w (bare e c p) = rw e (printable g w c)
-char-printable g w (coded b t e a k r) =
-    rw e (all-map visible (leb 32) (λ x h. le-leb 32 x (omega (arith, leb-true 33 x (and-left (leb 33 x) (leb x 126) h)))) (b ∷ t) a)
+char-printable g w (coded b t e a k r) = rw e (visible-printable (b ∷ t) a)
 
 pub escape-char-printable : (g : Bytes) → wellFormed g ≡ true → all (leb 32) (escapeChar g) ≡ true
 escape-char-printable g w = char-printable g w (written g w)
-
--- no line end in what is written
-pub escape-printable : (v : Bytes) → isUtf8 v ≡ true → all (leb 32) (escape v) ≡ true
-unfolding escape isUtf8
-escape-printable v u =
-    all-texts (leb 32) escapeChar (chars v) (all-map wellFormed (λ g. all (leb 32) (escapeChar g)) (λ g w. char-printable g w (written g w)) (chars v) u)
 
 long-length : (b : ℕ) (t : Bytes) → length (longForm (b ∷ t)) ≤ 6 * suc (length t)
 unfolding unicodeEscape

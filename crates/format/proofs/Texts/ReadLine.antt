@@ -2,17 +2,15 @@
 -- and an escaped value comes back without the white space at its ends that is no control character. Assumes nothing.
 use Prim.Native.Nat.{ℕ}
 use mathlib.Core.Path.{_≡_, refl, sym, ap, _∙_}
-use mathlib.Core.Bool.{Bool, true, false, not}
+use mathlib.Core.Bool.{true, false, not}
 use mathlib.Core.List.{[], _∷_, _++_}
 use native.Mathlib.Omega.{arith}
 use lib.Dec.{eqb}
-use lib.ListN.{length}
 use borrow.Author.Tests.{eqb-false, ne-eqb}
 use Rattle.format.specs.Bytes.{Bytes, ascii, colon, semicolon, space, any, texts, has, lower, sameLetters}
-use Rattle.format.specs.Characters.{trailIn, fits, wellFormed, matched, charsFrom, chars, codePoint, isWhite, dropFront, dropBack, trimBy, isUtf8, trim, isLost}
+use Rattle.format.specs.Characters.{trailIn, fits, wellFormed, matched, charsFrom, chars, codePoint, isWhite, dropFront, dropBack, trimBy, isUtf8, trim}
 use Rattle.format.specs.Escaping.{valueText}
-use Rattle.format.specs.Limits.{maxValue}
-use Rattle.format.specs.Refusals.{lacksColon, valueTooLong, accepted, refuseIf, passes, _>>_, _>>=_}
+use Rattle.format.specs.Refusals.{lacksColon, accepted, refuseIf, passes, _>>_, _>>=_}
 use Rattle.format.specs.Validators.{reservedInName, headerName, headerValue}
 use Rattle.format.specs.Message.{Entry, Header, Message, validHeader, validContent}
 use Rattle.format.specs.Calls.{Stores}
@@ -21,10 +19,9 @@ use Rattle.format.specs.Reading.{each, checkedValue, readValue, readName
 use Rattle.format.proofs.Lists.{or-false-left, or-false-right}
 use Rattle.format.proofs.Characters.Chars.{chars-ascii}
 use Rattle.format.proofs.Splitting.Split.{split-none, occurs-clear, has-at, upTo-at, past-at}
-use Rattle.format.proofs.Characters.Trim.{trim-shorter}
 use Rattle.format.proofs.Escaping.ValueText.{value-read, value-trim}
-use Rattle.format.proofs.Steps.{then-accepted, then-passed, bind-accepted, accepted-same, refuseUnless-passed, atMost-passed}
-use Rattle.format.proofs.Messages.Checked.{name-checked, value-checked, none-none}
+use Rattle.format.proofs.Steps.{then-accepted, then-passed, bind-accepted, accepted-same, refuseUnless-passed}
+use Rattle.format.proofs.Messages.Checked.{name-checked, none-none}
 use Rattle.format.proofs.Messages.Parts.{header-parts, content-parts}
 
 -- a byte differs from any that it is tested against
