@@ -6,7 +6,7 @@ use mathlib.Core.List.{[], _∷_, _++_, append-assoc, append-nil}
 use native.Mathlib.Omega.{arith}
 use lib.ListN.{length, length-append}
 use Rattle.format.specs.Bytes.{Bytes, CRLF, colon, space, semicolon, equals, texts, pasted}
-use Rattle.format.specs.Escaping.{escape}
+use Rattle.format.specs.Escaping.{valueText}
 use Rattle.format.specs.Writing.{paramText, headerLine, contentLine, ended}
 use Rattle.octets.proofs.Written.{Written, written-length, written-more}
 use Rattle.store_entries.specs.Stored.{paramCount, nameIn, valueIn, tailIn, storedIn, shapedAll}
@@ -38,13 +38,13 @@ module _ (s name value : Bytes) (n : name ≡ nameIn s) (v : value ≡ valueIn s
 
   module _ (tail : Bytes) (count : ℕ) (t : tail ≡ tailIn s) (k : count ≡ paramCount s) where
     pub header-parts : ended (headerLine (headerFrom (storedIn s)))
-        ≡ name ++ ((colon ∷ []) ++ (texts paramText (entriesFrom count tail) ++ ((space ∷ []) ++ (escape value ++ (CRLF ++ [])))))
+        ≡ name ++ ((colon ∷ []) ++ (texts paramText (entriesFrom count tail) ++ ((space ∷ []) ++ (valueText value ++ (CRLF ++ [])))))
     unfolding headerLine headerFrom storedIn
     header-parts =
         let ps = texts paramText (entriesFrom (paramCount s) (tailIn s)) in
         rw (n, v, t, k)
-        (append-assoc (nameIn s) ((colon ∷ []) ++ (ps ++ ((space ∷ []) ++ escape (valueIn s)))) CRLF
-        ∙ ap (λ (x : Bytes). nameIn s ++ (colon ∷ x)) (append-assoc ps ((space ∷ []) ++ escape (valueIn s)) CRLF))
+        (append-assoc (nameIn s) ((colon ∷ []) ++ (ps ++ ((space ∷ []) ++ valueText (valueIn s)))) CRLF
+        ∙ ap (λ (x : Bytes). nameIn s ++ (colon ∷ x)) (append-assoc ps ((space ∷ []) ++ valueText (valueIn s)) CRLF))
 
     -- its parameters are entries
     pub tail-shaped : tailHolds (storedIn s) ≡ true → shapedAll count tail ≡ true

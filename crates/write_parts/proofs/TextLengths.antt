@@ -8,7 +8,7 @@ use lib.ListN.{length, take, drop, length-append, length-drop}
 use lib.Seq.{length-take-le}
 use Rattle.format.specs.Bytes.{Bytes, if_then_else_, ascii, CRLF, texts}
 use Rattle.format.specs.Characters.{trailing, wellFormed, replacement, orReplaced, replaced}
-use Rattle.format.specs.Escaping.{escape}
+use Rattle.format.specs.Escaping.{valueText}
 use Rattle.format.specs.Message.{Entry, Header, Message, needEntry}
 use Rattle.format.specs.Layout.{layoutEntry}
 use Rattle.format.specs.Writing.{paramText, headerLine, contentLine, typeLine, ended, write}
@@ -66,11 +66,11 @@ contents-length n s h =
 
 -- a header's line
 pub header-length : (h : Header)
-    → length (ended (headerLine h)) ≡ length (h .name) + length (texts paramText (h .params)) + length (escape (h .value)) + 4
+    → length (ended (headerLine h)) ≡ length (h .name) + length (texts paramText (h .params)) + length (valueText (h .value)) + 4
 unfolding headerLine
 header-length h =
     let ps = texts paramText (h .params) in
-    let v = escape (h .value) in
+    let v = valueText (h .value) in
     omega (
       arith,
       length-append (h .name ++ (ascii ":" ++ (ps ++ (ascii " " ++ v)))) CRLF,
@@ -88,7 +88,7 @@ module _ (s : Bytes) (h : shaped s ≡ true) where
   unfolding storedIn valueCheck
   value-short f = value-checked (valueIn s) (fits-parts kind.Header (storedIn s) f .valued)
 
-  pub header-at : (n p v : ℕ) → n ≡ nameLength s → p ≡ length (texts paramText (headerFrom (storedIn s) .params)) → v ≡ length (escape (valueIn s))
+  pub header-at : (n p v : ℕ) → n ≡ nameLength s → p ≡ length (texts paramText (headerFrom (storedIn s) .params)) → v ≡ length (valueText (valueIn s))
       → n + p + v + 4 ≡ length (ended (headerLine (headerFrom (storedIn s))))
   unfolding storedIn headerFrom
   header-at n p v a b c = omega (arith, header-length (headerFrom (storedIn s)), name-length s (shape s h))

@@ -1,7 +1,7 @@
 // Document 01, "Writing": the lines of headers and of content headers, from the store over the bytes of an output. Each function writes
 // from a place on and gives the place behind what it wrote.
 
-use escape::escape_header_value;
+use escape::values::put_value;
 use octets::copy_at;
 use store_entries::entry_len;
 use store_entries::name_at;
@@ -69,7 +69,7 @@ fn put_param_texts(out: &mut [u8], at: usize, s: &[u8], count: usize) -> usize
     to
 }
 
-// The header at a place: name, `:`, the parameters, a space, the escaped value, CRLF.
+// The header at a place: name, `:`, the parameters, a space, the value, CRLF.
 fn put_header_line(out: &mut [u8], at: usize, s: &[u8], from: usize) -> usize
     requires { ⌜ (shaped (drop from (now s)) ≡ true) × (tailHolds (storedIn (drop from (now s))) ≡ true) × (at + length (ended (headerLine (headerFrom (storedIn (drop from (now s)))))) ≤ length (now out)) ⌝ }
     ensures place { λ r. ⌜ r ≡ at + length (ended (headerLine (headerFrom (storedIn (drop from (now (s .entry))))))) ⌝ }
@@ -83,7 +83,7 @@ fn put_header_line(out: &mut [u8], at: usize, s: &[u8], from: usize) -> usize
     to = put_byte(out, to, b':');
     to = put_param_texts(out, to, tail, count);
     to = put_byte(out, to, b' ');
-    to = escape_header_value(out, to, value);
+    to = put_value(out, to, value);
     put(out, to, b"\r\n")
 }
 

@@ -1,7 +1,7 @@
-// Document 01, "Writing": how long a text is, known before its first byte is written. Only the escaped values and the body are looked at:
+// Document 01, "Writing": how long a text is, known before its first byte is written. Only the header values and the body are looked at:
 // the store says how long the other parts are.
 
-use escape::escaped_len;
+use escape::values::value_len;
 use format::CpimMessage;
 use store_entries::entry_len;
 use store_entries::name_len;
@@ -33,12 +33,12 @@ fn params_len(s: &[u8], at: usize) -> usize
     tail_len(s, at) - 14 * param_count(s, at)
 }
 
-// Its line: `:`, a space and CRLF beside name, parameters and escaped value.
+// Its line: `:`, a space and CRLF beside name, parameters and the value as it is written.
 fn header_len(s: &[u8], at: usize) -> usize
     requires { ⌜ (shaped (drop at (now s)) ≡ true) × (fits kind.Header (storedIn (drop at (now s))) ≡ true) × (tailHolds (storedIn (drop at (now s))) ≡ true) ⌝ }
     ensures { λ r. ⌜ (r ≡ length (ended (headerLine (headerFrom (storedIn (drop at (now (s .entry)))))))) × (r < 131072) ⌝ }
 {
-    name_len(s, at) + params_len(s, at) + escaped_len(value_at(s, at)) + 4
+    name_len(s, at) + params_len(s, at) + value_len(value_at(s, at)) + 4
 }
 
 // The lines of all headers.

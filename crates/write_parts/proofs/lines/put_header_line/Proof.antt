@@ -5,7 +5,7 @@ use native.Mathlib.Omega.{arith}
 use lib.ListN.{drop}
 use borrow.Author.Needs.{needs}
 use Rattle.format.specs.Bytes.{Bytes, CRLF, colon, space, texts}
-use Rattle.format.specs.Escaping.{escape}
+use Rattle.format.specs.Escaping.{valueText}
 use Rattle.format.specs.Writing.{paramText, headerLine, ended}
 use Rattle.octets.proofs.Written.{Written, written-none, written-length, written-all}
 use Rattle.store_entries.specs.Stored.{storedIn}
@@ -45,64 +45,64 @@ value c = the tie.After-value-at (search) .value-at .result .now
 abbrev params : tie.After-param-count → Bytes
 params c = texts paramText (entriesFrom (c .param-count .result) (the tie.After-tail-at (search) .tail-at .result .now))
 
-parts : (c : tie.After-param-count) → whole c ≡ name c ++ ((colon ∷ []) ++ (params c ++ ((space ∷ []) ++ (escape (value c) ++ (CRLF ++ [])))))
+parts : (c : tie.After-param-count) → whole c ≡ name c ++ ((colon ∷ []) ++ (params c ++ ((space ∷ []) ++ (valueText (value c) ++ (CRLF ++ [])))))
 parts c = header-parts _ _ _ (the tie.After-name-at (search) .name-at .ensures) (the tie.After-value-at (search) .value-at .ensures) _ _ (the tie.After-tail-at (search) .tail-at .ensures) (c .param-count .ensures .0)
 
 none : (c : tie.After-param-count) → Written (whole c) (start c .args .out .now) (start c .args .out .now) (start c .args .at) (start c .args .at) (whole c)
 none c = written-none (whole c) (start c .args .out .now) (start c .args .at)
 
 put-requires : tie.Need-put-requires
-put-requires c κs = part-room (none (search)) (start (search) .pre .2) (name (search)) ((colon ∷ []) ++ (params (search) ++ ((space ∷ []) ++ (escape (value (search)) ++ (CRLF ++ []))))) (parts (search))
+put-requires c κs = part-room (none (search)) (start (search) .pre .2) (name (search)) ((colon ∷ []) ++ (params (search) ++ ((space ∷ []) ++ (valueText (value (search)) ++ (CRLF ++ []))))) (parts (search))
 
 abbrev read1 : tie.After-put → tie.After-param-count
 read1 c = search
 
 first : (c : tie.After-put)
-    → Written (whole (read1 c)) (start (read1 c) .args .out .now) (c .put .last .0) (start (read1 c) .args .at) (c .put .result) ((colon ∷ []) ++ (params (read1 c) ++ ((space ∷ []) ++ (escape (value (read1 c)) ++ (CRLF ++ [])))))
-first c = part-put (none (search)) (start (read1 c) .pre .2) (name (read1 c)) ((colon ∷ []) ++ (params (read1 c) ++ ((space ∷ []) ++ (escape (value (read1 c)) ++ (CRLF ++ []))))) (parts (read1 c)) (c .put .ensures)
+    → Written (whole (read1 c)) (start (read1 c) .args .out .now) (c .put .last .0) (start (read1 c) .args .at) (c .put .result) ((colon ∷ []) ++ (params (read1 c) ++ ((space ∷ []) ++ (valueText (value (read1 c)) ++ (CRLF ++ [])))))
+first c = part-put (none (search)) (start (read1 c) .pre .2) (name (read1 c)) ((colon ∷ []) ++ (params (read1 c) ++ ((space ∷ []) ++ (valueText (value (read1 c)) ++ (CRLF ++ []))))) (parts (read1 c)) (c .put .ensures)
 
 put-byte-requires : tie.Need-put-byte-requires
-put-byte-requires c κs = omega (arith, part-room (first (search)) (start (read1 (search)) .pre .2) ((colon ∷ [])) (params (read1 (search)) ++ ((space ∷ []) ++ (escape (value (read1 (search))) ++ (CRLF ++ [])))) refl)
+put-byte-requires c κs = omega (arith, part-room (first (search)) (start (read1 (search)) .pre .2) ((colon ∷ [])) (params (read1 (search)) ++ ((space ∷ []) ++ (valueText (value (read1 (search))) ++ (CRLF ++ [])))) refl)
 
 abbrev read2 : tie.After-put-byte → tie.After-param-count
 read2 c = read1 (search)
 
 second : (c : tie.After-put-byte)
-    → Written (whole (read2 c)) (start (read2 c) .args .out .now) (c .put-byte .last .0) (start (read2 c) .args .at) (c .put-byte .result) (params (read2 c) ++ ((space ∷ []) ++ (escape (value (read2 c)) ++ (CRLF ++ []))))
-second c = part-put (first (search)) (start (read2 c) .pre .2) ((colon ∷ [])) (params (read2 c) ++ ((space ∷ []) ++ (escape (value (read2 c)) ++ (CRLF ++ [])))) refl (c .put-byte .ensures)
+    → Written (whole (read2 c)) (start (read2 c) .args .out .now) (c .put-byte .last .0) (start (read2 c) .args .at) (c .put-byte .result) (params (read2 c) ++ ((space ∷ []) ++ (valueText (value (read2 c)) ++ (CRLF ++ []))))
+second c = part-put (first (search)) (start (read2 c) .pre .2) ((colon ∷ [])) (params (read2 c) ++ ((space ∷ []) ++ (valueText (value (read2 c)) ++ (CRLF ++ [])))) refl (c .put-byte .ensures)
 
 put-param-texts-requires : tie.Need-put-param-texts-requires
 put-param-texts-requires c κs = (
   tail-shaped _ _ _ (the tie.After-name-at (search) .name-at .ensures) (the tie.After-value-at (search) .value-at .ensures) _ _ (the tie.After-tail-at (search) .tail-at .ensures) (read2 (search) .param-count .ensures .0) (start (read2 (search)) .pre .1),
-  part-room (second (search)) (start (read2 (search)) .pre .2) (params (read2 (search))) ((space ∷ []) ++ (escape (value (read2 (search))) ++ (CRLF ++ []))) refl,
+  part-room (second (search)) (start (read2 (search)) .pre .2) (params (read2 (search))) ((space ∷ []) ++ (valueText (value (read2 (search))) ++ (CRLF ++ []))) refl,
 )
 
 abbrev read3 : tie.After-put-param-texts → tie.After-param-count
 read3 c = read2 (search)
 
 third : (c : tie.After-put-param-texts)
-    → Written (whole (read3 c)) (start (read3 c) .args .out .now) (c .put-param-texts .last .0) (start (read3 c) .args .at) (c .put-param-texts .result) ((space ∷ []) ++ (escape (value (read3 c)) ++ (CRLF ++ [])))
-third c = part-put (second (search)) (start (read3 c) .pre .2) (params (read3 c)) ((space ∷ []) ++ (escape (value (read3 c)) ++ (CRLF ++ []))) refl (c .put-param-texts .ensures)
+    → Written (whole (read3 c)) (start (read3 c) .args .out .now) (c .put-param-texts .last .0) (start (read3 c) .args .at) (c .put-param-texts .result) ((space ∷ []) ++ (valueText (value (read3 c)) ++ (CRLF ++ [])))
+third c = part-put (second (search)) (start (read3 c) .pre .2) (params (read3 c)) ((space ∷ []) ++ (valueText (value (read3 c)) ++ (CRLF ++ []))) refl (c .put-param-texts .ensures)
 
 put-byte-requires-2 : tie.Need-put-byte-requires-2
-put-byte-requires-2 c κs = omega (arith, part-room (third (search)) (start (read3 (search)) .pre .2) ((space ∷ [])) (escape (value (read3 (search))) ++ (CRLF ++ [])) refl)
+put-byte-requires-2 c κs = omega (arith, part-room (third (search)) (start (read3 (search)) .pre .2) ((space ∷ [])) (valueText (value (read3 (search))) ++ (CRLF ++ [])) refl)
 
 abbrev read4 : tie.After-put-byte2 → tie.After-param-count
 read4 c = read3 (search)
 
 fourth : (c : tie.After-put-byte2)
-    → Written (whole (read4 c)) (start (read4 c) .args .out .now) (c .put-byte2 .last .0) (start (read4 c) .args .at) (c .put-byte2 .result) (escape (value (read4 c)) ++ (CRLF ++ []))
-fourth c = part-put (third (search)) (start (read4 c) .pre .2) ((space ∷ [])) (escape (value (read4 c)) ++ (CRLF ++ [])) refl (c .put-byte2 .ensures)
+    → Written (whole (read4 c)) (start (read4 c) .args .out .now) (c .put-byte2 .last .0) (start (read4 c) .args .at) (c .put-byte2 .result) (valueText (value (read4 c)) ++ (CRLF ++ []))
+fourth c = part-put (third (search)) (start (read4 c) .pre .2) ((space ∷ [])) (valueText (value (read4 c)) ++ (CRLF ++ [])) refl (c .put-byte2 .ensures)
 
-escape-header-value-requires : tie.Need-escape-header-value-requires
-escape-header-value-requires c κs = part-room (fourth (search)) (start (read4 (search)) .pre .2) (escape (value (read4 (search)))) (CRLF ++ []) refl
+put-value-requires : tie.Need-put-value-requires
+put-value-requires c κs = part-room (fourth (search)) (start (read4 (search)) .pre .2) (valueText (value (read4 (search)))) (CRLF ++ []) refl
 
-abbrev read5 : tie.After-escape-header-value → tie.After-param-count
+abbrev read5 : tie.After-put-value → tie.After-param-count
 read5 c = read4 (search)
 
-fifth : (c : tie.After-escape-header-value)
-    → Written (whole (read5 c)) (start (read5 c) .args .out .now) (c .escape-header-value .last .0) (start (read5 c) .args .at) (c .escape-header-value .result) (CRLF ++ [])
-fifth c = part-put (fourth (search)) (start (read5 c) .pre .2) (escape (value (read5 c))) (CRLF ++ []) refl (c .escape-header-value .ensures)
+fifth : (c : tie.After-put-value)
+    → Written (whole (read5 c)) (start (read5 c) .args .out .now) (c .put-value .last .0) (start (read5 c) .args .at) (c .put-value .result) (CRLF ++ [])
+fifth c = part-put (fourth (search)) (start (read5 c) .pre .2) (valueText (value (read5 c))) (CRLF ++ []) refl (c .put-value .ensures)
 
 put-requires-2 : tie.Need-put-requires-2
 put-requires-2 c κs = part-room (fifth (search)) (start (read5 (search)) .pre .2) (CRLF) ([]) refl
@@ -124,4 +124,4 @@ pub put-header-line-spec : {M : Type 1} → statement M
 put-header-line-spec =
     tie.close
     (tie.spec name-at-requires value-at-requires tail-at-requires param-count-requires put-requires put-byte-requires put-param-texts-requires
-    put-byte-requires-2 escape-header-value-requires (λ c. search needs) put-requires-2 same-length returns)
+    put-byte-requires-2 put-value-requires (λ c. search needs) put-requires-2 same-length returns)

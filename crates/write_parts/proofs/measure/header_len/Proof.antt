@@ -4,8 +4,8 @@ use Prim.Native.Nat.{_≤_}
 use native.Mathlib.Omega.{arith}
 use lib.ListN.{length, drop}
 use Rattle.format.specs.Bytes.{Bytes}
-use Rattle.format.specs.Escaping.{escape}
-use Rattle.format.proofs.Escaping.Escape.{escape-length}
+use Rattle.format.specs.Escaping.{valueText}
+use Rattle.format.proofs.Escaping.ValueText.{value-length}
 use Rattle.store_entries.proofs.EntryShape.{within-numbers}
 use Rattle.format.proofs.Typed.{the}
 use Rattle.write_parts.proofs.TextLengths.{value-short, header-at}
@@ -34,17 +34,17 @@ short c =
     let start : tie.Start = search in
     omega (arith, ap length (c .value-at .ensures), value-short (drop (start .args .at) (start .args .s .now)) (start .pre .0) (start .pre .1))
 
-escaped-short : (c : tie.After-escaped-len) → c .escaped-len .result ≤ 6144
-escaped-short c = omega (arith, c .escaped-len .ensures, escape-length (the tie.After-value-at (search) .value-at .result .now), short (search))
+text-short : (c : tie.After-value-len) → c .value-len .result ≤ 6144
+text-short c = omega (arith, c .value-len .ensures, value-length (the tie.After-value-at (search) .value-at .result .now), short (search))
 
-escaped-len-requires : tie.Need-escaped-len-requires
-escaped-len-requires c κs = omega (arith, short c)
+value-len-requires : tie.Need-value-len-requires
+value-len-requires c κs = omega (arith, short c)
 
 add-result-2 : tie.Need-add-result-2
-add-result-2 c = omega (arith, the tie.After-name-len (search) .name-len .ensures .1, the tie.After-params-len (search) .params-len .ensures .1, escaped-short c)
+add-result-2 c = omega (arith, the tie.After-name-len (search) .name-len .ensures .1, the tie.After-params-len (search) .params-len .ensures .1, text-short c)
 
 add-result-3 : tie.Need-add-result-3
-add-result-3 c = omega (arith, the tie.After-name-len (search) .name-len .ensures .1, the tie.After-params-len (search) .params-len .ensures .1, escaped-short c)
+add-result-3 c = omega (arith, the tie.After-name-len (search) .name-len .ensures .1, the tie.After-params-len (search) .params-len .ensures .1, text-short c)
 
 returns : tie.Need-returns
 returns c =
@@ -52,11 +52,11 @@ returns c =
     let name = the tie.After-name-len (search) .name-len .ensures in
     let params = the tie.After-params-len (search) .params-len .ensures in (
       header-at (drop (start .args .at) (start .args .s .now)) (start .pre .0) _ _ _ (name .0) (params .0)
-          (c .escaped-len .ensures ∙ ap (λ (v : Bytes). length (escape v)) (the tie.After-value-at (search) .value-at .ensures)),
-      omega (arith, name .1, params .1, escaped-short c),
+          (c .value-len .ensures ∙ ap (λ (v : Bytes). length (valueText v)) (the tie.After-value-at (search) .value-at .ensures)),
+      omega (arith, name .1, params .1, text-short c),
     )
 
 pub header-len-spec : {M : Type 1} → statement M
 header-len-spec =
     tie.close
-    (tie.spec name-len-requires params-len-requires add-result value-at-requires escaped-len-requires add-result-2 add-result-3 returns)
+    (tie.spec name-len-requires params-len-requires add-result value-at-requires value-len-requires add-result-2 add-result-3 returns)
