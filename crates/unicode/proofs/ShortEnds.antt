@@ -16,11 +16,11 @@ use Rattle.characters.specs.Lengths.{subpartLen}
 use Rattle.characters.proofs.Utf8End.{subpart-inside, subpart-some}
 
 -- A text ends with the last of its characters.
-record Ending (u g : Bytes) : Type 0 where
-  before : Bytes
-  joined : u ≡ before ++ g
+pub record Ending (u g : Bytes) : Type 0 where
+  pub before : Bytes
+  pub joined : u ≡ before ++ g
 
-ending : (g : Bytes) (gs : List Bytes) → Ending (flat (g ∷ gs)) (lastOf g gs)
+pub ending : (g : Bytes) (gs : List Bytes) → Ending (flat (g ∷ gs)) (lastOf g gs)
 unfolding texts lastOf
 ending g [] = record { before = []; joined = append-nil g }
 ending g (h ∷ hs) =
@@ -28,7 +28,7 @@ ending g (h ∷ hs) =
     record { before = g ++ r .before; joined = ap (λ (x : Bytes). g ++ x) (r .joined) ∙ sym (append-assoc g (r .before) (lastOf h hs)) }
 
 -- a character has a byte
-whole-some : (g : Bytes) → wellFormed g ≡ true → 0 < length g
+pub whole-some : (g : Bytes) → wellFormed g ≡ true → 0 < length g
 whole-some [] w = absurd (false≢true (unfold wellFormed in w))
 whole-some (x ∷ g) w = omega arith
 

@@ -2,8 +2,8 @@
 -- computes over the 128 bytes; that white space has at most three bytes is one that computes over the 25 numbers. Assumes nothing.
 use Prim.Native.Nat.{ℕ, zero, suc, _+_, _*_, _%_, _≤_, _<_}
 use mathlib.Core.Path.{_≡_, refl, sym, ap, _∙_}
-use mathlib.Core.Bool.{Bool, true, false, not, _&&_, _||_, false≢true, and-false, and-true}
-use mathlib.Core.Logic.{⊎-elim}
+use mathlib.Core.Bool.{Bool, true, false, not, _&&_, _||_, false≢true, and-false, and-true, or-true}
+use mathlib.Core.Logic.{_⊎_, inl, inr, ⊎-elim}
 use mathlib.Core.List.{List, [], _∷_, append-nil}
 use native.Mathlib.Omega.{arith}
 use native.Mathlib.Numerals.{add-one}
@@ -12,14 +12,15 @@ use lib.ListN.{length, take, drop, getD, length-take, drop-of-length-le}
 use lib.Seq.{drop-cons, take-length}
 use borrow.Author.Tests.{leb-true, lt-leb, ltb-true, ltb-false, lt-ltb, le-ltb, eqb-true, eqb-false, eq-eqb, ne-eqb}
 use Rattle.format.specs.Bytes.{Bytes, all, any}
-use Rattle.format.specs.Characters.{_to_, within, wellFormed, chars, codePoint, whiteSpace, isWhite, isControl, isControlCode}
-use Rattle.format.proofs.Lists.{bcase, all-head, all-tail}
+use Rattle.format.specs.Characters.{_to_, within, wellFormed, chars, codePoint, whiteSpace, isWhite, isControl, isControlCode, isLost}
+use Rattle.format.proofs.Lists.{bcase, below, clash, or-intro-right, all-head, all-tail}
 use Rattle.format.proofs.Rulesets.{tests}
-use Rattle.format.proofs.Characters.Table.{within-intro, within-below}
+use Rattle.format.proofs.Characters.Table.{within-intro, within-below, within-above}
 use Rattle.format.proofs.Characters.Chars.{chars-whole, ascii-whole, whole-single}
-use Rattle.format.proofs.Characters.Shapes.{Shape, one, two, three, four, shape}
+use Rattle.format.proofs.Characters.Shapes.{Shape, one, two, three, four, shape, value-two, value-three}
 use Rattle.characters.specs.Lengths.{subpartLen, charLen}
 use Rattle.characters.proofs.Utf8End.{subpart-chars, subpart-inside, char-whole}
+use Rattle.unicode.specs.Ends.{lostLead}
 
 -- a list by its elements
 pub list-zero : (g : Bytes) → length g ≡ 0 → g ≡ []
@@ -153,7 +154,7 @@ white-low : (b : ℕ) → b < 128 → isWhite (b ∷ []) ≡ byteWhite b
 unfolding isWhite codePoint
 white-low b h = rw (ascii-whole b h) (ascii-white b h)
 
-white-high : (b : ℕ) → 128 ≤ b → isWhite (b ∷ []) ≡ false
+pub white-high : (b : ℕ) → 128 ≤ b → isWhite (b ∷ []) ≡ false
 unfolding isWhite
 white-high b h =
     ⊎-elim (λ w. absurd (omega (arith, whole-single b w))) (λ w. rw w refl) (bcase (wellFormed (b ∷ [])))
@@ -166,6 +167,13 @@ white-byte b =
     let h = ltb-false b 128 g in
     white-high b h ∙ sym (rw (lt-leb b 0x0D (omega arith), and-false (leb 0x09 b), ne-eqb b 0x20 (λ e. omega arith)) refl))
     (bcase (ltb b 128))
+
+-- of the ASCII bytes only the space is white space and no control character
+pub lost-low : (b : ℕ) → b < 128 → isLost (b ∷ []) ≡ eqb b 0x20
+unfolding isLost isControl isControlCode codePoint agree everyBelow
+lost-low b h =
+    rw (white-low b h, ascii-whole b h)
+    (agree-same (byteWhite b && not (isControlCode b)) (eqb b 0x20) (at-below (λ b. agree (byteWhite b && not (isControlCode b)) (eqb b 0x20)) 128 b refl h))
 
 -- the three answers of the test of a byte
 pub byte-below : (b : ℕ) → b < 0x09 → false ≡ isWhite (b ∷ [])
@@ -205,19 +213,74 @@ unfolding isControl isControlCode
 control-above g h =
     rw (le-ltb (codePoint g) 0x20 (omega arith), lt-leb (codePoint g) 0x9F h, and-false (leb 0x7F (codePoint g))) (sym (and-false (wellFormed g)))
 
--- what is among numbers up to m is at most m
-any-most : (n m : ℕ) (xs : List ℕ) → all (λ x. leb x m) xs ≡ true → any (eqb n) xs ≡ true → n ≤ m
-unfolding all any
-any-most n m [] a h = absurd (false≢true h)
-any-most n m (x ∷ xs) a h =
+-- what is among numbers that pass a test passes it
+any-passes : (p : ℕ → Bool) (n : ℕ) (xs : List ℕ) → all p xs ≡ true → any (eqb n) xs ≡ true → p n ≡ true
+unfolding any
+any-passes p n [] a h = absurd (false≢true h)
+any-passes p n (x ∷ xs) a h =
     ⊎-elim
-    (λ e. omega (arith, eqb-true n x e, leb-true x m (all-head (λ x. leb x m) x xs a)))
-    (λ e. any-most n m xs (all-tail (λ x. leb x m) x xs a) (rw e at h))
+    (λ e. ap p (eqb-true n x e) ∙ all-head p x xs a)
+    (λ e. any-passes p n xs (all-tail p x xs a) (rw e at h))
     (bcase (eqb n x))
 
 white-most : (n : ℕ) → any (eqb n) whiteSpace ≡ true → n ≤ 0x3000
 unfolding all
-white-most n h = any-most n 0x3000 whiteSpace refl h
+white-most n h = leb-true n 0x3000 (any-passes (λ x. leb x 0x3000) n whiteSpace refl h)
+
+-- no white space between U+00A0 and U+1680
+white-gap : (n : ℕ) → any (eqb n) whiteSpace ≡ true → 0xA0 < n → 0x1680 ≤ n
+unfolding all
+white-gap n h l =
+    leb-true 0x1680 n (sym (ap (λ x. x || leb 0x1680 n) (lt-leb n 0xA0 l)) ∙ any-passes (λ x. leb x 0xA0 || leb 0x1680 x) n whiteSpace refl h)
+
+-- what is lost
+pub lost-dark : (g : Bytes) → isWhite g ≡ false → false ≡ isLost g
+unfolding isLost
+lost-dark g h = rw h refl
+
+pub lost-white : (g : Bytes) (c : Bool) → isWhite g ≡ true → c ≡ isControl g → not c ≡ isLost g
+unfolding isLost
+lost-white g c h e = rw (h, e) refl
+
+pub lost-is-white : (g : Bytes) → isLost g ≡ true → isWhite g ≡ true
+unfolding isLost
+lost-is-white g h = (simp tests at h) .0
+
+-- a byte that white space which is no control character begins with
+pub lost-leads : (b : ℕ) (t : Bytes) → isLost (b ∷ t) ≡ true → lostLead b ≡ true
+unfolding isWhite lostLead
+lost-leads b t h =
+    let w = simp tests at (lost-is-white (b ∷ t) h) in
+    go (shape (b ∷ t) (w .0)) h (white-most (codePoint (b ∷ t)) (w .1)) (white-gap (codePoint (b ∷ t)) (w .1))
+  where
+    go : {b : ℕ} {t : Bytes} → Shape (b ∷ t) → isLost (b ∷ t) ≡ true → codePoint (b ∷ t) ≤ 0x3000 → (0xA0 < codePoint (b ∷ t) → 0x1680 ≤ codePoint (b ∷ t))
+        → lostLead b ≡ true
+    go (one a x) h m n = rw (sym (lost-low a (omega arith)) ∙ h) refl
+    go (two a b x y) h m n =
+        let v = value-two a b (omega arith) y in
+        rw (eq-eqb a 0xC2 (⊎-elim (λ l. omega (arith, n l)) (λ l. omega arith) (below 0xA0 (codePoint (a ∷ b ∷ []))))) (or-true (eqb a 0x20))
+    go (three a b c x y z u v) h m n =
+        let v = value-three a b c x y z in
+        let l = n (omega arith) in
+        or-intro-right (eqb a 0x20) _ (or-intro-right (eqb a 0xC2) _ (within-intro a (0xE1 to 0xE3) (omega arith) (omega arith)))
+    go (four a b c d x y z u v) h m n = absurd (omega arith)
+
+pub lost-empty : (g : Bytes) → length g ≡ 0 → false ≡ isLost g
+unfolding isLost isWhite wellFormed
+lost-empty [] h = refl
+lost-empty (b ∷ t) h = absurd (omega arith)
+
+pub lost-unled : (g : Bytes) → lostLead (getD g 0 0) ≡ false → false ≡ isLost g
+lost-unled [] h = lost-empty [] refl
+lost-unled (b ∷ t) h = sym (⊎-elim (λ l. clash (lost-leads b t l) h) (λ l. l) (bcase (isLost (b ∷ t))))
+
+pub lead-other : (b : ℕ) → (b ≡ 0x20 → ⊥) → (b ≡ 0xC2 → ⊥) → (b ≡ 0xE1 → ⊥) → (b ≡ 0xE2 → ⊥) → (b ≡ 0xE3 → ⊥) → false ≡ lostLead b
+unfolding lostLead
+lead-other b s t u v w = rw (ne-eqb b 0x20 s, ne-eqb b 0xC2 t) (sym (outside (below b 0xE1)))
+  where
+    outside : (b < 0xE1) ⊎ (0xE1 ≤ b) → within b (0xE1 to 0xE3) ≡ false
+    outside (inl l) = within-below b (0xE1 to 0xE3) l
+    outside (inr m) = within-above b (0xE1 to 0xE3) (omega arith)
 
 -- a white-space character has one byte, two or three
 pub white-short : (g : Bytes) → isWhite g ≡ true → length g ≤ 3

@@ -1,12 +1,12 @@
-// The ends of a text, its first and its last character (demand 3): whether white space stands there, or white space that is no control
-// character, which trimming takes from a header value as it is written.
+// The ends of a text, its first and its last character: whether white space stands there (demand 3), and how many bytes of white space
+// that is no control character, which trimming would take from a header value.
 
 use crate::is_control;
 use crate::is_white;
 use crate::trimming::trim;
 ghost use mathlib.Core.Path.{_≡_};
 ghost use Rattle.format.specs.Characters.{chars, isWhite, isLost, clearEnds};
-ghost use Rattle.unicode.specs.Ends.{frontClear, backClear};
+ghost use Rattle.unicode.specs.Ends.{lostLead, lostFront, lostBack};
 
 // Neither end is white space.
 pub fn clear_ends(s: &[u8]) -> bool
@@ -15,10 +15,30 @@ pub fn clear_ends(s: &[u8]) -> bool
     trim(s).len() == s.len()
 }
 
-// White space that is no control character.
+// A byte that such a character begins with.
+fn lost_lead(b: u8) -> bool
+    ensures { λ r. ⌜ r ≡ lostLead b ⌝ }
+{
+    match b {
+        0x20 => true,
+        0xC2 => true,
+        0xE1 => true,
+        0xE2 => true,
+        0xE3 => true,
+        _ => false,
+    }
+}
+
+// White space that is no control character; most characters are told from it by their first byte.
 fn is_lost(g: &[u8]) -> bool
     ensures { λ r. ⌜ r ≡ isLost (now (g .entry)) ⌝ }
 {
+    if g.len() == 0 {
+        return false;
+    }
+    if !lost_lead(g[0]) {
+        return false;
+    }
     let control = is_control(g);
     if !is_white(g) {
         return false;
@@ -26,62 +46,63 @@ fn is_lost(g: &[u8]) -> bool
     !control
 }
 
-// The first character is not such; it would have at most three bytes.
-fn front_clear(s: &[u8]) -> bool
-    ensures { λ r. ⌜ r ≡ frontClear isLost (chars (now (s .entry))) ⌝ }
+// How many bytes the first character has where it is such, else 0. It has at most three; an ASCII byte decides alone.
+pub fn lost_front(s: &[u8]) -> usize
+    ensures { λ r. ⌜ r ≡ lostFront (chars (now (s .entry))) ⌝ }
 {
     if s.len() == 0 {
-        return true;
+        return 0;
     }
-    if is_lost(&s[..1]) {
-        return false;
+    let b = s[0];
+    if b < 0x80 {
+        if b == 0x20 {
+            return 1;
+        }
+        return 0;
     }
     if s.len() < 2 {
-        return true;
+        return 0;
     }
     if is_lost(&s[..2]) {
-        return false;
+        return 2;
     }
     if s.len() < 3 {
-        return true;
+        return 0;
     }
-    !is_lost(&s[..3])
+    if is_lost(&s[..3]) {
+        return 3;
+    }
+    0
 }
 
-// Nor is the last.
-fn back_clear(s: &[u8]) -> bool
-    ensures { λ r. ⌜ r ≡ backClear isLost (chars (now (s .entry))) ⌝ }
+// The same of the last character.
+pub fn lost_back(s: &[u8]) -> usize
+    ensures { λ r. ⌜ r ≡ lostBack (chars (now (s .entry))) ⌝ }
 {
     let n = s.len();
     if n == 0 {
-        return true;
+        return 0;
     }
-    let one = n - 1;
-    if is_lost(&s[one..]) {
-        return false;
+    let b = s[n - 1];
+    if b < 0x80 {
+        if b == 0x20 {
+            return 1;
+        }
+        return 0;
     }
     if n < 2 {
-        return true;
+        return 0;
     }
     let two = n - 2;
     if is_lost(&s[two..]) {
-        return false;
+        return 2;
     }
     if n < 3 {
-        return true;
+        return 0;
     }
     let three = n - 3;
-    !is_lost(&s[three..])
-}
-
-// Neither end is white space, control characters apart.
-pub fn clear_of_lost(s: &[u8]) -> bool
-    ensures { λ r. ⌜ r ≡ clearEnds isLost (now (s .entry)) ⌝ }
-{
-    let front = front_clear(s);
-    let back = back_clear(s);
-    if !front {
-        return false;
+    if is_lost(&s[three..]) {
+        return 3;
     }
-    back
+    0
 }
