@@ -1,7 +1,7 @@
-mod HexDigits
 pub mod BareBytes
 pub mod ByKind
 pub mod FormAt
 pub mod Overlapping
 pub mod EscapeTurns
 pub mod Units
+pub mod ValueParts

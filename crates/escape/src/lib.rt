@@ -1,9 +1,10 @@
-// Document 01, "Escaping": a header value as it is written, in two steps: the length, for which the caller lends the
-// room, and the bytes.
+// Document 01, "Escaping": a text as it is escaped, in two steps: the length, for which the caller lends the room, and the bytes. A header
+// value in its line, whose ends are written otherwise, is in the module `values`.
 
 mod bare;
 mod forms;
 mod putting;
+pub mod values;
 
 use crate::bare::bare_text;
 use crate::forms::form_at;

@@ -15,4 +15,4 @@ unfolding digit
 returns-2 c = rw (le-ltb _ 10 (c .if1 .left)) refl
 
 pub digit-spec : {M : Type 1} → statement M
-digit-spec = tie.close (tie.spec (λ c. search needs) returns (λ c. search needs) returns-2)
+digit-spec = tie.close (tie.spec (λ c. search needs) (λ c. search needs) returns (λ c. search needs) returns-2)

@@ -55,5 +55,5 @@ pub put-form-spec : {M : Type 1} → statement M
 put-form-spec =
     tie.close
     (tie.spec (λ c. search needs) slice-write-out (λ c. search needs) slice-write-out-2 (λ c. search needs) slice-write-out-3 (λ c. search needs)
-    put-unicode-requires (λ c. search needs) put-unicode-requires-2 (λ c. search needs) returns (λ c. search needs) returns-2 (λ c. search needs)
-    returns-3 (λ c. search needs) returns-4)
+    (λ c. search needs) put-unicode-requires (λ c. search needs) (λ c. search needs) put-unicode-requires-2 (λ c. search needs) returns
+    (λ c. search needs) returns-2 (λ c. search needs) returns-3 (λ c. search needs) returns-4)

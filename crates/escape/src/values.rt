@@ -1,0 +1,64 @@
+// Document 02, T-03: a header value as it is written in its line. White space that is no control character is written as `\u` where it
+// is the first or the last character; the rest, as a rule all of the value, is escaped as any text.
+
+use crate::escape_header_value;
+use crate::escaped_len;
+use crate::putting::put_unicode;
+use unicode::code_point;
+use unicode::ends::lost_back;
+use unicode::ends::lost_front;
+ghost use mathlib.Core.Path.{_≡_};
+ghost use Prim.Native.Nat.{_+_, _*_, _^_, _≤_, _<_};
+ghost use lib.ListN.{length};
+ghost use Rattle.format.specs.Bytes.{pasted};
+ghost use Rattle.format.specs.Escaping.{valueText};
+ghost use Rattle.escape.specs.Values.{lostText};
+
+// How many bytes such a character is written in; no bytes stand for none.
+fn lost_len(g: &[u8]) -> usize
+    ensures { λ r. ⌜ r ≡ length (lostText (now (g .entry))) ⌝ }
+{
+    if g.len() == 0 {
+        return 0;
+    }
+    6
+}
+
+// Writes it.
+fn put_lost(out: &mut [u8], at: usize, g: &[u8]) -> usize
+    requires { ⌜ at + length (lostText (now g)) ≤ length (now out) ⌝ }
+    ensures placed { λ r. ⌜ r ≡ at + length (lostText (now (g .entry))) ⌝ }
+    ensures wrote { λ _. ⌜ now (out .exit) ≡ pasted at (lostText (now (g .entry))) (now (out .entry)) ⌝ }
+{
+    if g.len() == 0 {
+        return at;
+    }
+    put_unicode(out, at, code_point(g));
+    at + 6
+}
+
+// How many bytes the value is written in.
+pub fn value_len(v: &[u8]) -> usize
+    requires { ⌜ 6 * length (now v) < 2 ^ 64 ⌝ }
+    ensures { λ r. ⌜ r ≡ length (valueText (now (v .entry))) ⌝ }
+{
+    let front = lost_front(v);
+    let rest = &v[front..];
+    let end = rest.len() - lost_back(rest);
+    lost_len(&v[..front]) + escaped_len(&rest[..end]) + lost_len(&rest[end..])
+}
+
+// Writes the value from the place at on, and gives the place behind it. The last character is looked for behind the first, so that a
+// value of one is written once.
+pub fn put_value(out: &mut [u8], at: usize, v: &[u8]) -> usize
+    requires { ⌜ at + length (valueText (now v)) ≤ length (now out) ⌝ }
+    ensures placed { λ r. ⌜ r ≡ at + length (valueText (now (v .entry))) ⌝ }
+    ensures wrote { λ _. ⌜ now (out .exit) ≡ pasted at (valueText (now (v .entry))) (now (out .entry)) ⌝ }
+{
+    let n = lost_front(v);
+    let tail = &v[n..];
+    let m = tail.len() - lost_back(tail);
+    let first = put_lost(out, at, &v[..n]);
+    let next = escape_header_value(out, first, &tail[..m]);
+    put_lost(out, next, &tail[m..])
+}
