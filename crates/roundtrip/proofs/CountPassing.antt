@@ -12,14 +12,14 @@ use borrow.Author.Tests.{ne-eqb}
 use Rattle.format.specs.Bytes.{Bytes, isEmpty, all}
 use Rattle.format.specs.Message.{Entry, Header}
 use Rattle.format.specs.Layout.{layoutEntry, layoutHeader}
-use Rattle.format.specs.Demand3.{noParam, notType, clearName, clearContent, clearValue}
+use Rattle.format.specs.Demand3.{noParam, notType, clearName, clearContent}
 use Rattle.format.proofs.Lists.{bcase}
 use Rattle.store_entries.specs.Stored.{storedEntry, storedHeader, entriesIn}
 use Rattle.store_entries.proofs.Layouts.{headers-read, contents-read}
 use Rattle.lookup_nth.specs.Listed.{Listed}
 use Rattle.roundtrip.specs.Clauses.{meets, passing}
 use Rattle.roundtrip.specs.declared.clauses.Clause.{Clause}
-use Rattle.roundtrip.specs.declared.clauses.Clause.the-variants.{NoParam, NotType, ClearName, ClearContent, ClearValue}
+use Rattle.roundtrip.specs.declared.clauses.Clause.the-variants.{NoParam, NotType, ClearName, ClearContent}
 
 module _ {A : Type 0} (p : A → Bool) where
   pub passing-nil : passing p [] ≡ 0
@@ -77,10 +77,6 @@ module _ (hs : List Header) (s : Bytes) (many : ℕ) (l : Listed layoutHeader hs
   pub clear-names : passing (meets ClearName) (entriesIn many s) ≡ passing clearName hs
   unfolding meets clearName storedHeader
   clear-names = headers-as ClearName clearName (λ h. refl)
-
-  pub clear-values : passing (meets ClearValue) (entriesIn many s) ≡ passing clearValue hs
-  unfolding meets clearValue storedHeader
-  clear-values = headers-as ClearValue clearValue (λ h. refl)
 
 -- Content headers.
 module _ (es : List Entry) (s : Bytes) (many : ℕ) (l : Listed layoutEntry es s many) where

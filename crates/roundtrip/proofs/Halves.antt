@@ -1,4 +1,4 @@
--- The four clauses of each half, asked in their order of headers and content headers that are laid out. Assumes nothing.
+-- The clauses of each half, asked in their order of headers and content headers that are laid out. Assumes nothing.
 use Prim.Native.Nat.{ℕ, _≤_, _<_}
 use mathlib.Core.Path.{_≡_, sym, _∙_}
 use mathlib.Core.Bool.{Bool, true, false}
@@ -7,12 +7,12 @@ use Rattle.format.specs.Bytes.{Bytes}
 use Rattle.format.specs.Characters.{isUtf8, isWhite, clearEnds}
 use Rattle.format.specs.Message.{Entry, Header}
 use Rattle.format.specs.Layout.{layoutEntry, layoutHeader}
-use Rattle.format.specs.Demand3.{noParam, notType, clearName, clearContent, clearValue}
+use Rattle.format.specs.Demand3.{noParam, notType, clearName, clearContent}
 use Rattle.store_entries.specs.Stored.{entriesIn}
 use Rattle.lookup_nth.specs.Listed.{Listed}
 use Rattle.roundtrip.specs.Clauses.{meets, passing}
-use Rattle.roundtrip.specs.declared.clauses.Clause.the-variants.{NoParam, NotType, ClearName, ClearContent, ClearValue}
-use Rattle.roundtrip.proofs.CountPassing.{no-params, not-types, clear-names, clear-contents, clear-values}
+use Rattle.roundtrip.specs.declared.clauses.Clause.the-variants.{NoParam, NotType, ClearName, ClearContent}
+use Rattle.roundtrip.proofs.CountPassing.{no-params, not-types, clear-names, clear-contents}
 use Rattle.roundtrip.specs.Loss.{lost, none-lost, early, late}
 use Rattle.roundtrip.proofs.Lossless.{clause-holds, clause-fails, each-holds, each-fails, headed, headless}
 
@@ -61,18 +61,14 @@ module _ (hs cs : Bytes) (headers contents : ℕ) (xs : List Header) (ys : List 
               ∙ clause-holds _ _ (sym te ∙ good)
               ∙ each-holds 4 notType ys named contents named-is (ly .entries) _ l)
 
-  -- clauses 5 to 8
-  module _ (type : Bytes) (names others : ℕ) (clear : Bool) (values : ℕ) (ne : names ≡ passing (meets ClearName) (entriesIn headers hs))
-      (oe : others ≡ passing (meets ClearContent) (entriesIn contents cs)) (ce : clear ≡ clearEnds isWhite type)
-      (ve : values ≡ passing (meets ClearValue) (entriesIn headers hs)) where
+  -- clauses 5 to 7
+  module _ (type : Bytes) (names others : ℕ) (clear : Bool) (ne : names ≡ passing (meets ClearName) (entriesIn headers hs))
+      (oe : others ≡ passing (meets ClearContent) (entriesIn contents cs)) (ce : clear ≡ clearEnds isWhite type) where
     names-is : names ≡ passing clearName xs
     names-is = ne ∙ clear-names xs hs headers lx
 
     others-is : others ≡ passing clearContent ys
     others-is = oe ∙ clear-contents ys cs contents ly
-
-    values-is : values ≡ passing clearValue xs
-    values-is = ve ∙ clear-values xs hs headers lx
 
     pub a-name : names < headers → lost 5 names ≡ late xs ys type
     unfolding late
@@ -92,19 +88,9 @@ module _ (hs cs : Bytes) (headers contents : ℕ) (xs : List Header) (ys : List 
             ∙ each-holds 6 clearContent ys others contents others-is (ly .entries) _ plain
             ∙ clause-fails _ _ (sym ce ∙ f))
 
-        module _ (good : clear ≡ true) where
-          pub a-value : values < headers → lost 8 values ≡ late xs ys type
-          unfolding late
-          a-value l =
-              sym (each-holds 5 clearName xs names headers names-is (lx .entries) _ named
-              ∙ each-holds 6 clearContent ys others contents others-is (ly .entries) _ plain
-              ∙ clause-holds _ _ (sym ce ∙ good)
-              ∙ each-fails 8 clearValue xs values headers values-is (lx .entries) _ l)
-
-          pub late-none : headers ≤ values → none-lost ≡ late xs ys type
-          unfolding late
-          late-none l =
-              sym (each-holds 5 clearName xs names headers names-is (lx .entries) _ named
-              ∙ each-holds 6 clearContent ys others contents others-is (ly .entries) _ plain
-              ∙ clause-holds _ _ (sym ce ∙ good)
-              ∙ each-holds 8 clearValue xs values headers values-is (lx .entries) _ l)
+        pub late-none : clear ≡ true → none-lost ≡ late xs ys type
+        unfolding late
+        late-none t =
+            sym (each-holds 5 clearName xs names headers names-is (lx .entries) _ named
+            ∙ each-holds 6 clearContent ys others contents others-is (ly .entries) _ plain
+            ∙ clause-holds _ _ (sym ce ∙ t))

@@ -6,10 +6,10 @@ use mathlib.Core.List.{List, [], _∷_}
 use lib.Dec.{eqb}
 use Rattle.format.specs.Bytes.{if_then_else_}
 use Rattle.format.specs.Message.{Entry, Header}
-use Rattle.format.specs.Demand3.{notType, clearName, clearContent, clearValue}
+use Rattle.format.specs.Demand3.{notType, clearName, clearContent}
 use Rattle.store_entries.specs.Stored.{Stored}
 use Rattle.roundtrip.specs.declared.clauses.Clause.{Clause}
-use Rattle.roundtrip.specs.declared.clauses.Clause.the-variants.{NoParam, NotType, ClearName, ClearContent, ClearValue}
+use Rattle.roundtrip.specs.declared.clauses.Clause.the-variants.{NoParam, NotType, ClearName, ClearContent}
 
 -- name and value of an entry as it is stored
 abbrev pub asEntry : Stored → Entry
@@ -25,7 +25,6 @@ meets NoParam e = eqb (e .params) 0
 meets NotType e = notType (asEntry e)
 meets ClearName e = clearName (asHeader e)
 meets ClearContent e = clearContent (asEntry e)
-meets ClearValue e = clearValue (asHeader e)
 
 -- how many stand before the first that fails the test; all where none does
 unfoldable pub passing : {A : Type 0} → (A → Bool) → List A → ℕ

@@ -1,6 +1,7 @@
 -- Which clause of demand 3's condition a message fails first, and for which entry: the clauses of `comesBack`
--- (crates/format/specs/Demand3.antt) in their order, numbered from 1. proofs/Lossless.antt has that none fails exactly where the message comes
--- back. Assumes nothing.
+-- (crates/format/specs/Demand3.antt) in their order, numbered 1 to 7. No clause has the number 8, as header values come back whatever their
+-- ends (document 02, T-03); 9 stays the number for nothing held, so that no other number moves. proofs/Lossless.antt has that none fails
+-- exactly where the message comes back, and that 8 is never given. Assumes nothing.
 use Prim.Native.Nat.{ℕ}
 use mathlib.Core.Path.{_≡_}
 use mathlib.Core.Bool.{Bool, true, false}
@@ -15,7 +16,7 @@ use Rattle.format.specs.Calls.{Stores}
 use Rattle.format.specs.Layout.{Lent, Holds}
 use Rattle.format.specs.Writing.{write}
 use Rattle.format.specs.Reading.{read}
-use Rattle.format.specs.Demand3.{hasHeader, noParam, notType, clearName, clearContent, clearValue, comesBack, RoomFor}
+use Rattle.format.specs.Demand3.{hasHeader, noParam, notType, clearName, clearContent, comesBack, RoomFor}
 use Rattle.roundtrip.specs.Clauses.{passing}
 use Rattle.roundtrip.specs.declared.Loss.{Loss}
 
@@ -39,9 +40,9 @@ each c p xs rest = clause (all p xs) (lost c (passing p xs)) rest
 unfoldable pub early : List Header → List Entry → Bytes → Loss → Loss
 early hs cs body rest = clause (hasHeader hs) (lost 1 0) (each 2 noParam hs (clause (isUtf8 body) (lost 3 0) (each 4 notType cs rest)))
 
--- the ends of header names; of content header names and values; of the type; of header values
+-- the ends of header names; of content header names and values; of the type
 unfoldable pub late : List Header → List Entry → Bytes → Loss
-late hs cs type = each 5 clearName hs (each 6 clearContent cs (clause (clearEnds isWhite type) (lost 7 0) (each 8 clearValue hs none-lost)))
+late hs cs type = each 5 clearName hs (each 6 clearContent cs (clause (clearEnds isWhite type) (lost 7 0) none-lost))
 
 unfoldable pub loss : Message → Loss
 loss m = early (m .headers) (m .contents) (m .body) (late (m .headers) (m .contents) (m .type))

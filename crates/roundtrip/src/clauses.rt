@@ -7,7 +7,6 @@ use store_entries::name_at;
 use store_entries::param_count;
 use store_entries::value_at;
 use unicode::ends::clear_ends;
-use unicode::ends::clear_of_lost;
 ghost use mathlib.Core.Path.{_≡_};
 ghost use mathlib.Core.Bool.{true};
 ghost use lib.ListN.{drop};
@@ -22,7 +21,6 @@ pub enum Clause {
     NotType,
     ClearName,
     ClearContent,
-    ClearValue,
 }
 
 // Content-type in any ASCII case.
@@ -55,7 +53,6 @@ fn meets(clause: Clause, s: &[u8], at: usize) -> bool
         Clause::NotType => !is_type(name_at(s, at)),
         Clause::ClearName => clear_ends(name_at(s, at)),
         Clause::ClearContent => content_clear(s, at),
-        Clause::ClearValue => clear_of_lost(value_at(s, at)),
     }
 }
 

@@ -20,8 +20,8 @@ ghost use Rattle.store_entries.specs.Stored.{shapedAll};
 ghost use Rattle.lookup_nth.specs.Listed.{Listed};
 ghost use Rattle.roundtrip.specs.Loss.{none-lost, early, late, lossHeld, wholeHeld, ReadsBack};
 
-// The clause that fails first, by its number in specs/Loss.antt, 0 where none does and 9 where nothing is held; and the number of the
-// header or content header that it fails for, counting from 0, 0 where it speaks of none.
+// The clause that fails first, by its number in specs/Loss.antt, 1 to 7; 0 where none does and 9 where nothing is held, and 8 is never
+// given. And the number of the header or content header that it fails for, counting from 0, 0 where it speaks of none.
 #[repr(C)]
 pub struct Loss {
     pub clause: usize,
@@ -60,7 +60,7 @@ fn early_loss(hs: &[u8], headers: usize, cs: &[u8], contents: usize, body: &[u8]
     lost(0, 0)
 }
 
-// Clauses 5 to 8.
+// Clauses 5 to 7.
 fn late_loss(hs: &[u8], headers: usize, cs: &[u8], contents: usize, kind: &[u8]) -> Loss
     requires { ⌜ (shapedAll headers (now hs) ≡ true) × (shapedAll contents (now cs) ≡ true) ⌝ }
     ensures { λ r. ⌜ ((xs : List Header) (ys : List Entry) → Listed layoutHeader xs (now (hs .entry)) headers → Listed layoutEntry ys (now (cs .entry)) contents → r ≡ late xs ys (now (kind .entry))) ⌝ }
@@ -68,7 +68,6 @@ fn late_loss(hs: &[u8], headers: usize, cs: &[u8], contents: usize, kind: &[u8])
     let names = count_passing(Clause::ClearName, hs, headers);
     let others = count_passing(Clause::ClearContent, cs, contents);
     let clear = clear_ends(kind);
-    let values = count_passing(Clause::ClearValue, hs, headers);
     if names < headers {
         return lost(5, names);
     }
@@ -77,9 +76,6 @@ fn late_loss(hs: &[u8], headers: usize, cs: &[u8], contents: usize, kind: &[u8])
     }
     if !clear {
         return lost(7, 0);
-    }
-    if values < headers {
-        return lost(8, values);
     }
     lost(0, 0)
 }

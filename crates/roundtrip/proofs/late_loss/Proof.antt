@@ -3,7 +3,7 @@ use borrow.Author.Needs.{needs}
 use mathlib.Core.Path.{_∙_}
 use borrow.Author.Tests.{not-true, not-false}
 use Rattle.format.proofs.Typed.{the}
-use Rattle.roundtrip.proofs.Halves.{a-name, a-content, the-type, a-value, late-none}
+use Rattle.roundtrip.proofs.Halves.{a-name, a-content, the-type, late-none}
 use Rattle.roundtrip.proofs.late_loss.Statement.{statement}
 use Rattle.roundtrip.proofs.late_loss.Tie as tie
 
@@ -13,17 +13,14 @@ count-passing-requires c κs = the tie.Start (search) .pre .0
 count-passing-requires-2 : tie.Need-count-passing-requires-2
 count-passing-requires-2 c κs = the tie.Start (search) .pre .1
 
-count-passing-requires-3 : tie.Need-count-passing-requires-3
-count-passing-requires-3 c κs = the tie.Start (search) .pre .0
-
 returns : tie.Need-returns
 returns c =
     let args = the tie.Start (search) .args in
     λ xs ys lx ly.
     c .lost .ensures
     ∙ a-name (args .hs .now) (args .cs .now) (args .headers) (args .contents) xs ys lx ly (args .kind .now)
-    (the tie.After-count-passing (search) .count-passing .result) (the tie.After-count-passing2 (search) .count-passing2 .result) (the tie.After-clear-ends (search) .clear-ends .result) (the tie.After-count-passing3 (search) .count-passing3 .result)
-    (the tie.After-count-passing (search) .count-passing .ensures) (the tie.After-count-passing2 (search) .count-passing2 .ensures) (the tie.After-clear-ends (search) .clear-ends .ensures) (the tie.After-count-passing3 (search) .count-passing3 .ensures)
+    (the tie.After-count-passing (search) .count-passing .result) (the tie.After-count-passing2 (search) .count-passing2 .result) (the tie.After-clear-ends (search) .clear-ends .result)
+    (the tie.After-count-passing (search) .count-passing .ensures) (the tie.After-count-passing2 (search) .count-passing2 .ensures) (the tie.After-clear-ends (search) .clear-ends .ensures)
     (the tie.Then1 (search) .if1 .taken)
 
 returns-2 : tie.Need-returns-2
@@ -32,8 +29,8 @@ returns-2 c =
     λ xs ys lx ly.
     c .lost2 .ensures
     ∙ a-content (args .hs .now) (args .cs .now) (args .headers) (args .contents) xs ys lx ly (args .kind .now)
-    (the tie.After-count-passing (search) .count-passing .result) (the tie.After-count-passing2 (search) .count-passing2 .result) (the tie.After-clear-ends (search) .clear-ends .result) (the tie.After-count-passing3 (search) .count-passing3 .result)
-    (the tie.After-count-passing (search) .count-passing .ensures) (the tie.After-count-passing2 (search) .count-passing2 .ensures) (the tie.After-clear-ends (search) .clear-ends .ensures) (the tie.After-count-passing3 (search) .count-passing3 .ensures)
+    (the tie.After-count-passing (search) .count-passing .result) (the tie.After-count-passing2 (search) .count-passing2 .result) (the tie.After-clear-ends (search) .clear-ends .result)
+    (the tie.After-count-passing (search) .count-passing .ensures) (the tie.After-count-passing2 (search) .count-passing2 .ensures) (the tie.After-clear-ends (search) .clear-ends .ensures)
     (the tie.Else1 (search) .if1 .left) (the tie.Then2 (search) .if2 .taken)
 
 returns-3 : tie.Need-returns-3
@@ -42,8 +39,8 @@ returns-3 c =
     λ xs ys lx ly.
     c .lost3 .ensures
     ∙ the-type (args .hs .now) (args .cs .now) (args .headers) (args .contents) xs ys lx ly (args .kind .now)
-    (the tie.After-count-passing (search) .count-passing .result) (the tie.After-count-passing2 (search) .count-passing2 .result) (the tie.After-clear-ends (search) .clear-ends .result) (the tie.After-count-passing3 (search) .count-passing3 .result)
-    (the tie.After-count-passing (search) .count-passing .ensures) (the tie.After-count-passing2 (search) .count-passing2 .ensures) (the tie.After-clear-ends (search) .clear-ends .ensures) (the tie.After-count-passing3 (search) .count-passing3 .ensures)
+    (the tie.After-count-passing (search) .count-passing .result) (the tie.After-count-passing2 (search) .count-passing2 .result) (the tie.After-clear-ends (search) .clear-ends .result)
+    (the tie.After-count-passing (search) .count-passing .ensures) (the tie.After-count-passing2 (search) .count-passing2 .ensures) (the tie.After-clear-ends (search) .clear-ends .ensures)
     (the tie.Else1 (search) .if1 .left) (the tie.Else2 (search) .if2 .left) (not-true _ (the tie.Then3 (search) .if3 .taken))
 
 returns-4 : tie.Need-returns-4
@@ -51,23 +48,13 @@ returns-4 c =
     let args = the tie.Start (search) .args in
     λ xs ys lx ly.
     c .lost4 .ensures
-    ∙ a-value (args .hs .now) (args .cs .now) (args .headers) (args .contents) xs ys lx ly (args .kind .now)
-    (the tie.After-count-passing (search) .count-passing .result) (the tie.After-count-passing2 (search) .count-passing2 .result) (the tie.After-clear-ends (search) .clear-ends .result) (the tie.After-count-passing3 (search) .count-passing3 .result)
-    (the tie.After-count-passing (search) .count-passing .ensures) (the tie.After-count-passing2 (search) .count-passing2 .ensures) (the tie.After-clear-ends (search) .clear-ends .ensures) (the tie.After-count-passing3 (search) .count-passing3 .ensures)
-    (the tie.Else1 (search) .if1 .left) (the tie.Else2 (search) .if2 .left) (not-false _ (the tie.Else3 (search) .if3 .left)) (the tie.Then4 (search) .if4 .taken)
-
-returns-5 : tie.Need-returns-5
-returns-5 c =
-    let args = the tie.Start (search) .args in
-    λ xs ys lx ly.
-    c .lost5 .ensures
     ∙ late-none (args .hs .now) (args .cs .now) (args .headers) (args .contents) xs ys lx ly (args .kind .now)
-    (the tie.After-count-passing (search) .count-passing .result) (the tie.After-count-passing2 (search) .count-passing2 .result) (the tie.After-clear-ends (search) .clear-ends .result) (the tie.After-count-passing3 (search) .count-passing3 .result)
-    (the tie.After-count-passing (search) .count-passing .ensures) (the tie.After-count-passing2 (search) .count-passing2 .ensures) (the tie.After-clear-ends (search) .clear-ends .ensures) (the tie.After-count-passing3 (search) .count-passing3 .ensures)
-    (the tie.Else1 (search) .if1 .left) (the tie.Else2 (search) .if2 .left) (not-false _ (the tie.Else3 (search) .if3 .left)) (the tie.Else4 (search) .if4 .left)
+    (the tie.After-count-passing (search) .count-passing .result) (the tie.After-count-passing2 (search) .count-passing2 .result) (the tie.After-clear-ends (search) .clear-ends .result)
+    (the tie.After-count-passing (search) .count-passing .ensures) (the tie.After-count-passing2 (search) .count-passing2 .ensures) (the tie.After-clear-ends (search) .clear-ends .ensures)
+    (the tie.Else1 (search) .if1 .left) (the tie.Else2 (search) .if2 .left) (not-false _ (the tie.Else3 (search) .if3 .left))
 
 pub late-loss-spec : {M : Type 1} → statement M
 late-loss-spec =
     tie.close
-    (tie.spec count-passing-requires count-passing-requires-2 (λ c κs. search needs) count-passing-requires-3 (λ c κs. search needs) returns
-    (λ c κs. search needs) returns-2 (λ c κs. search needs) returns-3 (λ c κs. search needs) returns-4 (λ c κs. search needs) returns-5)
+    (tie.spec count-passing-requires count-passing-requires-2 (λ c κs. search needs) (λ c κs. search needs) returns
+    (λ c κs. search needs) returns-2 (λ c κs. search needs) returns-3 (λ c κs. search needs) returns-4)

@@ -5,8 +5,8 @@ use mathlib.Core.Bool.{not}
 use lib.Dec.{eqb}
 use borrow.Author.Needs.{needs}
 use Rattle.format.specs.Bytes.{ascii, sameLetters}
-use Rattle.format.specs.Characters.{isWhite, isLost, clearEnds}
-use Rattle.format.specs.Demand3.{notType, clearName, clearValue}
+use Rattle.format.specs.Characters.{isWhite, clearEnds}
+use Rattle.format.specs.Demand3.{notType, clearName}
 use Rattle.store_entries.specs.Stored.{storedIn}
 use Rattle.store_entries.proofs.EntryShape.{within-numbers}
 use Rattle.format.proofs.Typed.{the}
@@ -25,9 +25,6 @@ name-at-requires-2 c κs = the tie.Start (search) .pre
 
 content-clear-requires : tie.Need-content-clear-requires
 content-clear-requires c κs = the tie.Start (search) .pre
-
-value-at-requires : tie.Need-value-at-requires
-value-at-requires c κs = the tie.Start (search) .pre
 
 returns : tie.Need-returns
 unfolding meets storedIn
@@ -53,15 +50,8 @@ returns-4 c =
     let at-enum-told4 : tie.After-enum-told4 = search in
     rw (at-enum-told4 .enum-told4 .given .1) (c .content-clear .ensures)
 
-returns-5 : tie.Need-returns-5
-unfolding meets clearValue storedIn
-returns-5 c =
-    let at-value-at : tie.After-value-at = search in
-    rw (the tie.After-enum-told5 (search) .enum-told5 .given .1) (c .clear-of-lost .ensures ∙ ap (clearEnds isLost) (at-value-at .value-at .ensures))
-
 pub meets-spec : {M : Type 1} → statement M
 meets-spec =
     tie.close
     (tie.spec (λ c. search needs) param-count-requires (λ c. search needs) name-at-requires (λ c κs. search needs) (λ c. search needs) name-at-requires-2
-    (λ c κs. search needs) (λ c. search needs) content-clear-requires (λ c. search needs) value-at-requires (λ c κs. search needs) returns returns-2
-    returns-3 returns-4 returns-5)
+    (λ c κs. search needs) (λ c. search needs) content-clear-requires returns returns-2 returns-3 returns-4)
