@@ -23,18 +23,14 @@ use Rattle.report.proofs.Read.{is-refused, is-read, in-both}
 use Rattle.report.specs.Words.{reason, refusedWords, entryWords}
 use Rattle.report.specs.Telling.{ofHeader, ofContent, subject, lossWords, tell, wholecpim}
 
--- Clauses 2, 5, 8; 4, 6; and the others.
+-- Clauses 2, 5; 4, 6; and the others.
 pub two-is : (c : ℕ) → c ≡ 2 → true ≡ ofHeader c
 unfolding ofHeader
 two-is c e = rw (eq-eqb c 2 e) refl
 
-pub five-is : (c : ℕ) → (c ≡ 2 → ⊥) → c ≡ 5 → true ≡ ofHeader c
+pub five-is : (c : ℕ) → (c ≡ 2 → ⊥) → eqb c 5 ≡ ofHeader c
 unfolding ofHeader
-five-is c n e = rw (ne-eqb c 2 n, eq-eqb c 5 e) refl
-
-pub eight-is : (c : ℕ) → (c ≡ 2 → ⊥) → (c ≡ 5 → ⊥) → eqb c 8 ≡ ofHeader c
-unfolding ofHeader
-eight-is c n m = rw (ne-eqb c 2 n, ne-eqb c 5 m) refl
+five-is c n = rw (ne-eqb c 2 n) refl
 
 pub four-is : (c : ℕ) → c ≡ 4 → true ≡ ofContent c
 unfolding ofContent

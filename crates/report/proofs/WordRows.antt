@@ -1,4 +1,4 @@
--- The line of a number, in rows written as lines, is the row of that number: no row has an LF. Assumes nothing.
+-- The line of a number, in rows written as lines, is the row of that number: no row has an LF. Every loss has its words. Assumes nothing.
 use Prim.Native.Nat.{ℕ, zero, suc, _≤_}
 use mathlib.Core.Path.{_≡_, refl, ap, _∙_}
 use mathlib.Core.Bool.{Bool, true, false, not}
@@ -7,7 +7,7 @@ use native.Mathlib.Omega.{arith}
 use lib.Dec.{leb, eqb}
 use lib.ListN.{length}
 use borrow.Author.Tests.{leb-true}
-use Rattle.format.specs.Bytes.{Bytes, if_then_else_, all, lf, LF, upTo, past, texts}
+use Rattle.format.specs.Bytes.{Bytes, if_then_else_, isEmpty, all, lf, LF, upTo, past, texts}
 use Rattle.format.proofs.Lists.{and-left, and-right, clash}
 use Rattle.report.specs.Words.{row, conditions, reasons, condition, reason, lined, lineAt}
 
@@ -70,3 +70,12 @@ reason-line n = line-row n reasons refl
 pub reason-short : (n : ℕ) → length (reason n) ≤ 80
 unfolding reasons reason fit all
 reason-short n = row-short n reasons refl
+
+-- every number that a loss can have has words, and no other has
+pub reasons-given : all (λ n. not (isEmpty (reason n))) (0 ∷ 1 ∷ 2 ∷ 3 ∷ 4 ∷ 5 ∷ 6 ∷ 7 ∷ 9 ∷ []) ≡ true
+unfolding reasons reason row isEmpty all
+reasons-given = refl
+
+pub reason-none : reason 8 ≡ []
+unfolding reasons reason row
+reason-none = refl

@@ -17,7 +17,7 @@ use Rattle.report.specs.Words.{reason, refusedWords, entryWords}
 
 -- the clauses that speak of one header, and of one content header
 unfoldable pub ofHeader : ℕ → Bool
-ofHeader c = eqb c 2 || (eqb c 5 || eqb c 8)
+ofHeader c = eqb c 2 || eqb c 5
 
 unfoldable pub ofContent : ℕ → Bool
 ofContent c = eqb c 4 || eqb c 6

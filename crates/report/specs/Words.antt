@@ -47,7 +47,8 @@ conditions =
     ∷ ascii "input or body longer than there is room for"
     ∷ []
 
--- why a message does not come back whole, by clause; of a clause about an entry, what is said behind its name
+-- why a message does not come back whole, by clause; of a clause about an entry, what is said behind its name; the row of 8, which is never
+-- given, is empty
 unfoldable pub reasons : List Bytes
 reasons =
     ascii "comes back whole"
@@ -58,7 +59,7 @@ reasons =
     ∷ ascii "has white space at an end of its name: it is trimmed when read"
     ∷ ascii "has white space at an end of its name or value: it is trimmed when read"
     ∷ ascii "its type has white space at an end: it is trimmed when read"
-    ∷ ascii "has white space at an end of its value: it is trimmed when read"
+    ∷ []
     ∷ ascii "nothing is held"
     ∷ []
 

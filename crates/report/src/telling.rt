@@ -32,10 +32,7 @@ fn of_header(clause: usize) -> bool
     if clause == 2 {
         return true;
     }
-    if clause == 5 {
-        return true;
-    }
-    clause == 8
+    clause == 5
 }
 
 // The clause speaks of one content header.

@@ -41,13 +41,13 @@ fn put_condition(out: &mut [u8], at: usize, number: u64) -> usize
     put(out, at, words)
 }
 
-// Why a message does not come back whole, by the clause that fails.
+// Why a message does not come back whole, by the clause that fails. No clause has the number 8: its line is empty.
 pub fn put_reason(out: &mut [u8], at: usize, clause: usize) -> usize
     requires { ⌜ at + 80 ≤ length (now out) ⌝ }
     ensures { λ r. ⌜ Put at 80 (reason clause) (now (out .entry)) (now (out .exit)) r ⌝ }
 {
     let words = line(
-        b"comes back whole\nit has no header: its text is refused, or read as another message\nhas a parameter: it is written behind the colon and read as part of the value\nits body is not UTF-8: ill-formed bytes are written as U+FFFD\nis called Content-type: it is read as the type\nhas white space at an end of its name: it is trimmed when read\nhas white space at an end of its name or value: it is trimmed when read\nits type has white space at an end: it is trimmed when read\nhas white space at an end of its value: it is trimmed when read\nnothing is held\n",
+        b"comes back whole\nit has no header: its text is refused, or read as another message\nhas a parameter: it is written behind the colon and read as part of the value\nits body is not UTF-8: ill-formed bytes are written as U+FFFD\nis called Content-type: it is read as the type\nhas white space at an end of its name: it is trimmed when read\nhas white space at an end of its name or value: it is trimmed when read\nits type has white space at an end: it is trimmed when read\n\nnothing is held\n",
         clause,
     );
     put(out, at, words)

@@ -103,22 +103,20 @@ loss-none m =
     (zero-and _ 4 _ _ _ (omega arith)
     (zero-and _ 5 _ _ _ (omega arith) (zero-and _ 6 _ _ _ (omega arith) (zero-last _ 7 _ (omega arith)))))))
 
--- 8 is never given.
-not-eight : (b : Bool) (c n : ℕ) (rest : Loss) → (c ≡ 8 → ⊥) → (rest .clause ≡ 8 → ⊥) → clause b (lost c n) rest .clause ≡ 8 → ⊥
+-- Of a message a number up to 7 is given, so 8 never is.
+at-most : (b : Bool) (c n : ℕ) (rest : Loss) → c ≤ 7 → rest .clause ≤ 7 → clause b (lost c n) rest .clause ≤ 7
 unfolding clause
-not-eight true c n rest h e = e
-not-eight false c n rest h e = h
+at-most true c n rest h e = e
+at-most false c n rest h e = h
 
-pub never-eight : (o : Option Message) → lossHeld o .clause ≡ 8 → ⊥
-unfolding lossHeld loss early late each
-never-eight none = λ e. omega arith
-never-eight (some m) =
-    not-eight _ 1 _ _ (λ e. omega arith)
-    (not-eight _ 2 _ _ (λ e. omega arith)
-    (not-eight _ 3 _ _ (λ e. omega arith)
-    (not-eight _ 4 _ _ (λ e. omega arith)
-    (not-eight _ 5 _ _ (λ e. omega arith)
-    (not-eight _ 6 _ _ (λ e. omega arith) (not-eight _ 7 _ _ (λ e. omega arith) (λ e. omega arith)))))))
+pub numbered : (m : Message) → loss m .clause ≤ 7
+unfolding loss early late each
+numbered m =
+    at-most _ 1 _ _ (omega arith)
+    (at-most _ 2 _ _ (omega arith)
+    (at-most _ 3 _ _ (omega arith)
+    (at-most _ 4 _ _ (omega arith)
+    (at-most _ 5 _ _ (omega arith) (at-most _ 6 _ _ (omega arith) (at-most _ 7 _ none-lost (omega arith) (omega arith)))))))
 
 -- the answer, by what is held
 pub answers : (o : Option Message) (l : Loss) → l ≡ lossHeld o → eqb (l .clause) 0 ≡ wholeHeld o
