@@ -1,4 +1,5 @@
 -- The tables proved, each as a whole.
 mod Specimens
+mod ValueEnds
 mod Refusing
 mod Rules

@@ -1,4 +1,5 @@
--- What document 01 says of its rules by examples, as tables.
+-- What documents 01 and 02 say of their rules by examples, as tables.
 pub mod Specimens
+pub mod ValueEnds
 pub mod Refusing
 pub mod Rules

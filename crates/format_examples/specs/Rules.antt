@@ -181,7 +181,7 @@ pub record Shown : Type 0 where
   pub printed : showcpim (notice (ascii "From: <im:a@b>") (ascii "Content-type: text/plain"))
       ≡ ascii "result=0\ncarried=0\nheaders=1\nparams=0\ncontents=0\ntype=text/plain\nbody=2\n"
   pub refusedPrinted : showcpim (ascii "Hi") ≡ ascii "result=2\ncarried=0\n"
-  -- the type is escaped as a header value is
+  -- the type is escaped by document 01's rule
   pub typeEscaped : showcpim (notice (ascii "a;b=c: d") (ascii "e: f\r\nContent-type: \"\\"))
       ≡ ascii "result=0\ncarried=0\nheaders=1\nparams=1\ncontents=1\ntype=\\\"\\\\\nbody=2\n"
   -- at most 65,536 bytes, and stores of 65,536 bytes

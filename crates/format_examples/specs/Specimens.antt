@@ -1,4 +1,4 @@
--- Document 01, "Specimens P1 to P11": one table, proved as a whole in proofs/Specimens.antt. Assumes nothing.
+-- Document 01, "Specimens P1 to P11", P9 as document 02, T-03, has it: one table, proved as a whole in proofs/Specimens.antt. Assumes nothing.
 use mathlib.Core.Path.{_≡_}
 use mathlib.Core.List.{List, [], _∷_, map}
 use mathlib.Core.Option.{Option, none, some}
@@ -54,6 +54,6 @@ pub record Specimens : Type 0 where
   pub p7 : back (single (ascii "Subject") (ascii "Hi") (entry (ascii "lang") (ascii "en") ∷ []))
       ≡ accepted (single (ascii "Subject") (ascii ";lang=en Hi") [])
   pub p8 : back (single (ascii "To") (0x09 ∷ []) []) ≡ accepted (single (ascii "To") (0x09 ∷ []) [])
-  pub p9 : back (single (ascii "To") (0x20 ∷ []) []) ≡ accepted (single (ascii "To") [] [])
+  pub p9 : back (single (ascii "To") (0x20 ∷ []) []) ≡ accepted (single (ascii "To") (0x20 ∷ []) [])
   pub p10 : bodyRead (read twoSections roomy) ≡ some (ascii "a\r\n\r\nb")
   pub p11 : numbers (addContentHeader (ascii "a") (ascii "y") roomy withTwenty) ≡ 22 carrying 21
