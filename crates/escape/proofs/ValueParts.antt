@@ -2,26 +2,24 @@
 -- that is lost, looked for behind the first. Assumes nothing.
 use Prim.Native.Nat.{ℕ, _+_, _-_, _≤_, _<_}
 use mathlib.Core.Path.{_≡_, refl, sym, ap, _∙_}
-use mathlib.Core.Bool.{true, false}
+use mathlib.Core.Bool.{true}
 use mathlib.Core.Logic.{⊎-elim}
 use mathlib.Core.List.{List, [], _∷_, _++_, append-nil, append-assoc}
 use native.Mathlib.Omega.{arith}
 use lib.ListN.{length, take, drop, length-append, length-take, take-append-drop}
 use lib.Seq.{take-length, drop-length}
 use Rattle.format.specs.Bytes.{Bytes, texts}
-use Rattle.format.specs.Characters.{chars, codePoint, lastOf, isLost}
+use Rattle.format.specs.Characters.{chars, codePoint, isLost}
 use Rattle.format.specs.Escaping.{unicodeEscape, escapeChar, escape, endForm, lastForms, valueForms, valueText}
 use Rattle.format.proofs.Lists.{clash, below, rest-is}
 use Rattle.format.proofs.Characters.Chars.{chars-whole}
+use Rattle.format.proofs.Escaping.EndForm.{lost-whole}
+use Rattle.format.proofs.Escaping.ValueText.{last-escape, forms-last}
 use Rattle.unicode.specs.Ends.{lostFront, lostBack}
 use Rattle.unicode.proofs.WhiteTests.{lost-empty}
 use Rattle.unicode.proofs.LastChar.{chars-last}
-use Rattle.unicode.proofs.LostEnds.{lost-whole, front-kept, back-kept, front-lost, back-lost}
+use Rattle.unicode.proofs.LostEnds.{front-kept, back-kept, front-lost, back-lost}
 use Rattle.escape.specs.Values.{lostText}
-
-end-kept : (g : Bytes) → isLost g ≡ false → endForm g ≡ escapeChar g
-unfolding endForm
-end-kept g h = rw h refl
 
 end-lost : (g : Bytes) → isLost g ≡ true → endForm g ≡ lostText g
 unfolding endForm lostText
@@ -46,19 +44,16 @@ pub lost-six : (g : Bytes) → (length g ≡ 0 → ⊥) → length (lostText g) 
 unfolding unicodeEscape
 lost-six g h = ap length (lost-is g h)
 
--- a first character that is not lost is written as those between
+-- a first character that is not lost is written as those between, and so is a last one
 forms-kept : (gs : List Bytes) → lostFront gs ≡ 0 → valueForms gs ≡ lastForms gs
 unfolding valueForms lastForms
 forms-kept [] z = refl
-forms-kept (g ∷ []) z = append-nil (endForm g)
-forms-kept (g ∷ h ∷ gs) z = ap (λ (x : Bytes). x ++ lastForms (h ∷ gs)) (end-kept g (front-kept g (h ∷ gs) z))
+forms-kept (g ∷ gs) z = forms-last g gs (front-kept g gs z)
 
--- and so is a last one
 last-kept : (gs : List Bytes) → lostBack gs ≡ 0 → lastForms gs ≡ texts escapeChar gs
-unfolding lastForms texts lostBack lastOf
+unfolding lastForms texts
 last-kept [] z = refl
-last-kept (g ∷ []) z = end-kept g (back-kept g [] z) ∙ sym (append-nil (escapeChar g))
-last-kept (g ∷ h ∷ gs) z = ap (λ (x : Bytes). escapeChar g ++ x) (last-kept (h ∷ gs) z)
+last-kept (g ∷ gs) z = last-escape g gs (back-kept g gs z)
 
 last-lost : (gs : List Bytes) (g : Bytes) → isLost g ≡ true → lastForms (gs ++ (g ∷ [])) ≡ texts escapeChar gs ++ lostText g
 unfolding lastForms texts

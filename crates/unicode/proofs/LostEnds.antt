@@ -10,18 +10,16 @@ use lib.ListN.{length, take, drop, getD, length-append, length-drop, take-append
 use lib.Seq.{length-take-le, take-append-seam, drop-append-seam}
 use borrow.Author.Tests.{ne-eqb}
 use Rattle.format.specs.Bytes.{Bytes, texts}
-use Rattle.format.specs.Characters.{chars, flat, wellFormed, lastOf, isLost}
+use Rattle.format.specs.Characters.{chars, flat, lastOf, isLost}
 use Rattle.format.proofs.Lists.{bcase}
+use Rattle.format.proofs.Escaping.EndForm.{lost-is-white, lost-whole}
 use Rattle.format.proofs.Characters.Chars.{flat-chars, chars-nil, chars-whole, chars-ascii, ascii-whole}
 use Rattle.characters.proofs.Utf8End.{subpart-chars}
 use Rattle.unicode.specs.Ends.{lostSize, lostFront, lostBack}
-use Rattle.unicode.proofs.WhiteTests.{white-short, white-whole, white-high, lost-dark, lost-is-white, lost-low}
+use Rattle.unicode.proofs.WhiteTests.{white-short, white-high, lost-dark, lost-low}
 use Rattle.unicode.proofs.LastChar.{chars-last}
 use Rattle.unicode.proofs.ShortEnds.{Ending, ending, whole-some, first-fails, last-fails}
 use Rattle.unicode.proofs.Stripping.{first-byte, last-byte}
-
-pub lost-whole : (g : Bytes) → isLost g ≡ true → wellFormed g ≡ true
-lost-whole g h = white-whole g (lost-is-white g h)
 
 lost-short : (g : Bytes) → isLost g ≡ true → length g ≤ 3
 lost-short g h = white-short g (lost-is-white g h)

@@ -13,8 +13,10 @@ use lib.Seq.{drop-cons, take-length}
 use borrow.Author.Tests.{leb-true, lt-leb, ltb-true, ltb-false, lt-ltb, le-ltb, eqb-true, eqb-false, eq-eqb, ne-eqb}
 use Rattle.format.specs.Bytes.{Bytes, all, any}
 use Rattle.format.specs.Characters.{_to_, within, wellFormed, chars, codePoint, whiteSpace, isWhite, isControl, isControlCode, isLost}
-use Rattle.format.proofs.Lists.{bcase, below, clash, or-intro-right, all-head, all-tail}
+use Rattle.format.proofs.Lists.{bcase, below, clash, or-intro-right}
 use Rattle.format.proofs.Rulesets.{tests}
+use Rattle.format.proofs.Characters.WhiteSpace.{white-all}
+use Rattle.format.proofs.Escaping.EndForm.{lost-is-white}
 use Rattle.format.proofs.Characters.Table.{within-intro, within-below, within-above}
 use Rattle.format.proofs.Characters.Chars.{chars-whole, ascii-whole, whole-single}
 use Rattle.format.proofs.Characters.Shapes.{Shape, one, two, three, four, shape, value-two, value-three}
@@ -213,25 +215,20 @@ unfolding isControl isControlCode
 control-above g h =
     rw (le-ltb (codePoint g) 0x20 (omega arith), lt-leb (codePoint g) 0x9F h, and-false (leb 0x7F (codePoint g))) (sym (and-false (wellFormed g)))
 
--- what is among numbers that pass a test passes it
-any-passes : (p : ℕ → Bool) (n : ℕ) (xs : List ℕ) → all p xs ≡ true → any (eqb n) xs ≡ true → p n ≡ true
-unfolding any
-any-passes p n [] a h = absurd (false≢true h)
-any-passes p n (x ∷ xs) a h =
-    ⊎-elim
-    (λ e. ap p (eqb-true n x e) ∙ all-head p x xs a)
-    (λ e. any-passes p n xs (all-tail p x xs a) (rw e at h))
-    (bcase (eqb n x))
+pub white-whole : (g : Bytes) → isWhite g ≡ true → wellFormed g ≡ true
+unfolding isWhite
+white-whole g h = (simp tests at h) .0
 
-white-most : (n : ℕ) → any (eqb n) whiteSpace ≡ true → n ≤ 0x3000
+white-most : (g : Bytes) → isWhite g ≡ true → codePoint g ≤ 0x3000
 unfolding all
-white-most n h = leb-true n 0x3000 (any-passes (λ x. leb x 0x3000) n whiteSpace refl h)
+white-most g h = leb-true (codePoint g) 0x3000 (white-all (λ x. leb x 0x3000) refl g h)
 
 -- no white space between U+00A0 and U+1680
-white-gap : (n : ℕ) → any (eqb n) whiteSpace ≡ true → 0xA0 < n → 0x1680 ≤ n
+white-gap : (g : Bytes) → isWhite g ≡ true → 0xA0 < codePoint g → 0x1680 ≤ codePoint g
 unfolding all
-white-gap n h l =
-    leb-true 0x1680 n (sym (ap (λ x. x || leb 0x1680 n) (lt-leb n 0xA0 l)) ∙ any-passes (λ x. leb x 0xA0 || leb 0x1680 x) n whiteSpace refl h)
+white-gap g h l =
+    let n = codePoint g in
+    leb-true 0x1680 n (sym (ap (λ x. x || leb 0x1680 n) (lt-leb n 0xA0 l)) ∙ white-all (λ x. leb x 0xA0 || leb 0x1680 x) refl g h)
 
 -- what is lost
 pub lost-dark : (g : Bytes) → isWhite g ≡ false → false ≡ isLost g
@@ -242,16 +239,12 @@ pub lost-white : (g : Bytes) (c : Bool) → isWhite g ≡ true → c ≡ isContr
 unfolding isLost
 lost-white g c h e = rw (h, e) refl
 
-pub lost-is-white : (g : Bytes) → isLost g ≡ true → isWhite g ≡ true
-unfolding isLost
-lost-is-white g h = (simp tests at h) .0
-
 -- a byte that white space which is no control character begins with
 pub lost-leads : (b : ℕ) (t : Bytes) → isLost (b ∷ t) ≡ true → lostLead b ≡ true
-unfolding isWhite lostLead
+unfolding lostLead
 lost-leads b t h =
-    let w = simp tests at (lost-is-white (b ∷ t) h) in
-    go (shape (b ∷ t) (w .0)) h (white-most (codePoint (b ∷ t)) (w .1)) (white-gap (codePoint (b ∷ t)) (w .1))
+    let w = lost-is-white (b ∷ t) h in
+    go (shape (b ∷ t) (white-whole (b ∷ t) w)) h (white-most (b ∷ t) w) (white-gap (b ∷ t) w)
   where
     go : {b : ℕ} {t : Bytes} → Shape (b ∷ t) → isLost (b ∷ t) ≡ true → codePoint (b ∷ t) ≤ 0x3000 → (0xA0 < codePoint (b ∷ t) → 0x1680 ≤ codePoint (b ∷ t))
         → lostLead b ≡ true
@@ -284,15 +277,10 @@ lead-other b s t u v w = rw (ne-eqb b 0x20 s, ne-eqb b 0xC2 t) (sym (outside (be
 
 -- a white-space character has one byte, two or three
 pub white-short : (g : Bytes) → isWhite g ≡ true → length g ≤ 3
-unfolding isWhite
-white-short g h = go (shape g ((simp tests at h) .0)) (white-most (codePoint g) ((simp tests at h) .1))
+white-short g h = go (shape g (white-whole g h)) (white-most g h)
   where
     go : {g : Bytes} → Shape g → codePoint g ≤ 0x3000 → length g ≤ 3
     go (one a x) l = omega arith
     go (two a b x y) l = omega arith
     go (three a b c x y z u v) l = omega arith
     go (four a b c d x y z u v) l = absurd (omega arith)
-
-pub white-whole : (g : Bytes) → isWhite g ≡ true → wellFormed g ≡ true
-unfolding isWhite
-white-whole g h = (simp tests at h) .0

@@ -23,18 +23,18 @@ end-either : (P : Bytes → Type 0) (g : Bytes) → (isLost g ≡ true → P (un
 unfolding endForm
 end-either P g a b = ⊎-elim (λ l. rw l (a l)) (λ l. rw l (b l)) (bcase (isLost g))
 
-pub lost-white : (g : Bytes) → isLost g ≡ true → isWhite g ≡ true
+pub lost-is-white : (g : Bytes) → isLost g ≡ true → isWhite g ≡ true
 unfolding isLost
-lost-white g l = and-left (isWhite g) (not (isControl g)) l
+lost-is-white g l = and-left (isWhite g) (not (isControl g)) l
 
 pub lost-whole : (g : Bytes) → isLost g ≡ true → wellFormed g ≡ true
 unfolding isWhite
-lost-whole g l = and-left (wellFormed g) _ (lost-white g l)
+lost-whole g l = and-left (wellFormed g) _ (lost-is-white g l)
 
 -- four digits are enough for each of the 25
 pub lost-code : (g : Bytes) → isLost g ≡ true → codePoint g < 65536
 unfolding all
-lost-code g l = omega (arith, ltb-true (codePoint g) 65536 (white-all (λ n. ltb n 65536) refl g (lost-white g l)))
+lost-code g l = omega (arith, ltb-true (codePoint g) 65536 (white-all (λ n. ltb n 65536) refl g (lost-is-white g l)))
 
 pub end-read : (g s : Bytes) → wellFormed g ≡ true → unescape (endForm g ++ s) ≡ inFront g (unescape s)
 end-read g s w =
