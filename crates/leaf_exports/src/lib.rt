@@ -6,7 +6,7 @@ ghost use Prim.Native.Nat.{_+_, _*_, _^_, _<_, _≤_};
 ghost use lib.ListN.{length, take, drop, replicate};
 ghost use Rattle.format.specs.Bytes.{pasted, same, before, occurs, upTo, lower, sameLetters};
 ghost use Rattle.format.specs.Characters.{isUtf8, isWhite, isControl, replaced, trim};
-ghost use Rattle.format.specs.Escaping.{escape, unescape};
+ghost use Rattle.format.specs.Escaping.{escape, valueText, unescape};
 ghost use Rattle.format.specs.Limits.{maxText};
 ghost use Rattle.unescape.specs.Reads.{measured, valueOf};
 ghost use Rattle.sections.specs.Body.{joined};
@@ -77,6 +77,23 @@ pub extern "C" fn leaves_escape(out: &mut [u8], s: &[u8]) -> usize
     ensures bytes { λ _. ⌜ now (out .exit) ≡ pasted 0 (escape (now (s .entry))) (now (out .entry)) ⌝ }
 {
     escape::escape_header_value(out, 0, s)
+}
+
+#[no_mangle]
+pub extern "C" fn leaves_value_len(s: &[u8]) -> usize
+    requires { ⌜ 6 * length (now s) < 2 ^ 64 ⌝ }
+    ensures { λ r. ⌜ r ≡ length (valueText (now (s .entry))) ⌝ }
+{
+    escape::values::value_len(s)
+}
+
+#[no_mangle]
+pub extern "C" fn leaves_put_value(out: &mut [u8], s: &[u8]) -> usize
+    requires { ⌜ 0 + length (valueText (now s)) ≤ length (now out) ⌝ }
+    ensures len { λ r. ⌜ r ≡ 0 + length (valueText (now (s .entry))) ⌝ }
+    ensures bytes { λ _. ⌜ now (out .exit) ≡ pasted 0 (valueText (now (s .entry))) (now (out .entry)) ⌝ }
+{
+    escape::values::put_value(out, 0, s)
 }
 
 // Whether every escape can be read.
