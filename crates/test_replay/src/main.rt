@@ -6,7 +6,8 @@
 // written), then eight parts, each a length in four bytes, low one first, and so many bytes: the text, or the type; the body for `new`;
 // the script of calls (crates/calls_script/specs/Script.antt); the refusal's number and the carried one, four bytes each; the type, the
 // entries of the head store, and the body of the message held; its text. The last four are empty where the beginning is refused. The
-// source made the list: rust/beside/src/bin/record says how.
+// source made the list, but for the text where a header value has white space that is no control character at an end: it follows document
+// 02, T-03. rust/beside/src/bin/record says how.
 
 use calls_script::argument_at;
 use calls_script::argument_end;

@@ -1,6 +1,6 @@
-// Document 01's examples and specimens through the compiled functions: each text is read, and what was read is written again. A line
-// for each: its name, the refusal's number and what it carries; behind an accepted one the text that is written. The file `stdout`
-// is what document 01 says.
+// Document 01's examples and specimens, and the ends of header values (document 02, T-03), through the compiled functions: each text is
+// read, and what was read is written again. A line for each: its name, the refusal's number and what it carries; behind an accepted one
+// the text that is written. The file `stdout` is what the documents say.
 
 use format::CpimMessage;
 use io::print_decimal;
@@ -67,7 +67,7 @@ fn print_text(m: CpimMessage, head: &[u8], body: &[u8]) {
 
 // A text read.
 fn read(name: &[u8], text: &[u8]) {
-    let mut head = [0u8; 16384];
+    let mut head = [0u8; 4096];
     let mut body = [0u8; 64];
     let a = parse_cpim(text, &mut head, &mut body);
     print_numbers(name, a.number, a.carried);
@@ -94,7 +94,7 @@ fn limit(name: &[u8], before: &[u8], s: &[u8], n: usize, behind: &[u8]) {
     at = add(&mut text, at, before);
     at = add_times(&mut text, at, s, n);
     at = add(&mut text, at, behind);
-    let mut head = [0u8; 16384];
+    let mut head = [0u8; 4096];
     let mut body = [0u8; 64];
     let a = parse_cpim(first(&text, at), &mut head, &mut body);
     print_numbers(name, a.number, a.carried);
@@ -249,12 +249,12 @@ fn headerless() {
     back(b"P6", m.message, &head, &body);
 }
 
-fn with_lang() {
+fn with_lang(name: &[u8], value: &[u8]) {
     let mut head = [0u8; 1024];
     let mut body = [0u8; 2];
     let m = message::new(b"text/plain", b"Hi", &mut head, &mut body);
-    let lang = message::builders::with_subject_lang(m.message, &mut head, b"Hi", b"en");
-    back(b"P7", lang.message, &head, &body);
+    let lang = message::builders::with_subject_lang(m.message, &mut head, value, b"en");
+    back(name, lang.message, &head, &body);
 }
 
 fn with_value(name: &[u8], value: &[u8]) {
@@ -317,7 +317,7 @@ fn escapes() {
 
 fn messages() {
     headerless();
-    with_lang();
+    with_lang(b"P7", b"Hi");
     with_value(b"P8", b"\t");
     with_value(b"P9", b" ");
     read(
@@ -325,6 +325,31 @@ fn messages() {
         b"message/cpim\n\nTo: a\n\nContent-type: text/plain\n\na\n\nb",
     );
     content_again();
+}
+
+// A header value of 1,024 spaces: an output that is a byte short, and one that the text fills.
+fn spaces() {
+    let mut head = [0u8; 2048];
+    let mut body = [0u8; 2];
+    let m = message::new(b"text/plain", b"Hi", &mut head, &mut body);
+    let value = [32u8; 1024];
+    let to = message::set_header(m.message, &mut head, b"To", &value);
+    let mut short = [0u8; 1101];
+    let less = to_string(to.message, &head, &body, &mut short);
+    print_numbers(b"spaces, a byte short", less.number, less.carried);
+    let mut full = [0u8; 1102];
+    let all = to_string(to.message, &head, &body, &mut full);
+    print_numbers(b"spaces", all.number, all.carried);
+}
+
+// U+00A0 at the end, U+3000 in front, two spaces, a space behind an escape; and behind a parameter, which is read as part of the value.
+fn ends() {
+    with_value(b"T-03 last", b"x\xc2\xa0");
+    with_value(b"T-03 first", b"\xe3\x80\x80x");
+    with_value(b"T-03 both", b"  ");
+    with_value(b"T-03 escape", b"\\ ");
+    with_lang(b"T-03 parameter", b"Hi\xc2\xa0");
+    spaces();
 }
 
 fn main() {
@@ -344,4 +369,5 @@ fn main() {
     bodies();
     escapes();
     messages();
+    ends();
 }
