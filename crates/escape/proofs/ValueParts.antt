@@ -1,13 +1,13 @@
--- A header value as it is written is three parts: a first character that is lost, as `\u`; what is between, escaped; and a last character
--- that is lost, looked for behind the first. Assumes nothing.
+-- Where the ends of a header value are cut off: a first character that is lost, and a last one that is, looked for behind the first.
+-- Assumes nothing.
 use Prim.Native.Nat.{ℕ, _+_, _-_, _≤_, _<_}
 use mathlib.Core.Path.{_≡_, refl, sym, ap, _∙_}
 use mathlib.Core.Bool.{true}
 use mathlib.Core.Logic.{⊎-elim}
 use mathlib.Core.List.{List, [], _∷_, _++_, append-nil, append-assoc}
 use native.Mathlib.Omega.{arith}
-use lib.ListN.{length, take, drop, length-append, length-take, take-append-drop}
-use lib.Seq.{take-length, drop-length}
+use lib.ListN.{length, take, drop, length-append, length-drop, take-append-drop}
+use lib.Seq.{take-length, drop-length, drop-drop}
 use Rattle.format.specs.Bytes.{Bytes, texts}
 use Rattle.format.specs.Characters.{chars, codePoint, isLost}
 use Rattle.format.specs.Escaping.{unicodeEscape, escapeChar, escape, endForm, lastForms, valueForms, valueText}
@@ -18,8 +18,8 @@ use Rattle.format.proofs.Escaping.ValueText.{last-escape, forms-last}
 use Rattle.unicode.specs.Ends.{lostFront, lostBack}
 use Rattle.unicode.proofs.WhiteTests.{lost-empty}
 use Rattle.unicode.proofs.LastChar.{chars-last}
-use Rattle.unicode.proofs.LostEnds.{front-kept, back-kept, front-lost, back-lost}
-use Rattle.escape.specs.Values.{lostText}
+use Rattle.unicode.proofs.LostEnds.{front-kept, back-kept, front-lost, back-lost, front-inside, back-inside}
+use Rattle.escape.specs.Values.{lostText, Cuts}
 
 end-lost : (g : Bytes) → isLost g ≡ true → endForm g ≡ lostText g
 unfolding endForm lostText
@@ -91,28 +91,31 @@ back-part u b e = ⊎-elim some none (below 0 b)
         let z : length u - b ≡ length u = omega arith in
         rw (z, take-length u, drop-length u, lost-nothing [] refl) (last-kept (chars u) (omega arith) ∙ sym (append-nil (texts escapeChar (chars u))))
 
--- the part of a text from a place on, as the code takes it
-abbrev pub from : ℕ → Bytes → Bytes
-from n s = take (length s - n) (drop n s)
+-- where the ends are cut off
+pub cuts : (v : Bytes) (f b : ℕ) → f ≡ lostFront (chars v) → b ≡ lostBack (chars (drop f v)) → Cuts v f (length v - b)
+cuts v f b e k =
+    let rest = drop f v in
+    let i : f ≤ length v = omega (arith, front-inside v) in
+    let j : b ≤ length v - f = omega (arith, back-inside rest, length-drop f v) in
+    let n : length rest - b ≡ length v - b - f = omega (arith, length-drop f v) in
+    let m : f + (length v - b - f) ≡ length v - b = omega arith in
+    record {
+      ordered = omega arith;
+      inside = omega arith;
+      parts =
+          front-part v f e
+          ∙ ap (λ (x : Bytes). lostText (take f v) ++ x) (back-part rest b k)
+          ∙ ap (λ (x : ℕ). lostText (take f v) ++ (escape (take x rest) ++ lostText (drop x rest))) n
+          ∙ ap (λ (x : Bytes). lostText (take f v) ++ (escape (take (length v - b - f) rest) ++ lostText x)) (drop-drop (length v - b - f) f v)
+          ∙ ap (λ (x : ℕ). lostText (take f v) ++ (escape (take (length v - b - f) rest) ++ lostText (drop x v))) m;
+    }
 
--- what is between the ends is no longer than the value
-pub inner-length : (v : Bytes) (f b : ℕ) → length (take (length (from f v) - b) (from f v)) ≤ length v
-inner-length v f b =
-    let rest = from f v in
-    omega (arith, length-take (length rest - b) rest, length-take (length v - f) (drop f v))
+-- the parts, the last as the code takes it; and their lengths
+module _ {v : Bytes} {f e : ℕ} (c : Cuts v f e) where
+  pub cut-parts : valueText v ≡ lostText (take f v) ++ (escape (take (e - f) (drop f v)) ++ lostText (take (length v - e) (drop e v)))
+  cut-parts = c .parts ∙ ap (λ (x : Bytes). lostText (take f v) ++ (escape (take (e - f) (drop f v)) ++ lostText x)) (sym (rest-is v e))
 
-module _ (v : Bytes) (f b : ℕ) (e : f ≡ lostFront (chars v)) (k : b ≡ lostBack (chars (from f v))) where
-  abbrev rest : Bytes
-  rest = from f v
-
-  pub value-parts : valueText v ≡ lostText (take f v) ++ (escape (take (length rest - b) rest) ++ lostText (from (length rest - b) rest))
-  value-parts =
-      front-part v f e
-      ∙ ap (λ (x : Bytes). lostText (take f v) ++ lastForms (chars x)) (sym (rest-is v f))
-      ∙ ap (λ (x : Bytes). lostText (take f v) ++ x) (back-part rest b k)
-      ∙ ap (λ (x : Bytes). lostText (take f v) ++ (escape (take (length rest - b) rest) ++ lostText x)) (sym (rest-is rest (length rest - b)))
-
-  pub parts-length :
+  pub cut-lengths :
       length (valueText v)
-      ≡ length (lostText (take f v)) + (length (escape (take (length rest - b) rest)) + length (lostText (from (length rest - b) rest)))
-  parts-length = ap length value-parts ∙ simp length-append refl
+      ≡ length (lostText (take f v)) + (length (escape (take (e - f) (drop f v))) + length (lostText (take (length v - e) (drop e v))))
+  cut-lengths = ap length cut-parts ∙ simp length-append refl

@@ -1,10 +1,20 @@
--- An end of a header value as it is cut off: a character that is written as `\u`, or nothing (document 02, T-03). `value-parts` in
--- proofs/ValueParts.antt says that a value as it is written is two such ends and what is between them. Assumes nothing.
-use mathlib.Core.List.{[], _∷_}
+-- A header value as it is written is three parts (document 02, T-03): a first character that is written as `\u`, or nothing; what is
+-- between, escaped as any text; and a last character that is written as `\u`, or nothing. Assumes nothing.
+use Prim.Native.Nat.{ℕ, _-_, _≤_}
+use mathlib.Core.Path.{_≡_}
+use mathlib.Core.List.{[], _∷_, _++_}
+use lib.ListN.{length, take, drop}
 use Rattle.format.specs.Bytes.{Bytes}
 use Rattle.format.specs.Characters.{codePoint}
-use Rattle.format.specs.Escaping.{unicodeEscape}
+use Rattle.format.specs.Escaping.{unicodeEscape, escape, valueText}
 
+-- an end that is cut off: no bytes stand for none
 unfoldable pub lostText : Bytes → Bytes
 lostText [] = []
 lostText (b ∷ t) = unicodeEscape (codePoint (b ∷ t))
+
+-- The ends of v are its first `front` bytes and those from the place `end` on.
+pub record Cuts (v : Bytes) (front end : ℕ) : Type 0 where
+  pub ordered : front ≤ end
+  pub inside : end ≤ length v
+  pub parts : valueText v ≡ lostText (take front v) ++ (escape (take (end - front) (drop front v)) ++ lostText (drop end v))

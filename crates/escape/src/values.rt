@@ -12,7 +12,7 @@ ghost use Prim.Native.Nat.{_+_, _*_, _^_, _≤_, _<_};
 ghost use lib.ListN.{length};
 ghost use Rattle.format.specs.Bytes.{pasted};
 ghost use Rattle.format.specs.Escaping.{valueText};
-ghost use Rattle.escape.specs.Values.{lostText};
+ghost use Rattle.escape.specs.Values.{lostText, Cuts};
 
 // How many bytes such a character is written in; no bytes stand for none.
 fn lost_len(g: &[u8]) -> usize
@@ -37,28 +37,45 @@ fn put_lost(out: &mut [u8], at: usize, g: &[u8]) -> usize
     at + 6
 }
 
+// Where the ends are cut off: behind the first `front` bytes, and at the place `end`.
+struct Ends {
+    front: usize,
+    end: usize,
+}
+
+// The last character is looked for behind the first, so that a value of one is written once.
+fn cut(v: &[u8]) -> Ends
+    ensures { λ r. ⌜ Cuts (now (v .entry)) (r .front) (r .end) ⌝ }
+{
+    let front = lost_front(v);
+    let back = lost_back(&v[front..]);
+    Ends {
+        front: front,
+        end: v.len() - back,
+    }
+}
+
 // How many bytes the value is written in.
-pub fn value_len(v: &[u8]) -> usize
+pub fn value_text_len(v: &[u8]) -> usize
     requires { ⌜ 6 * length (now v) < 2 ^ 64 ⌝ }
     ensures { λ r. ⌜ r ≡ length (valueText (now (v .entry))) ⌝ }
 {
-    let front = lost_front(v);
-    let rest = &v[front..];
-    let end = rest.len() - lost_back(rest);
-    lost_len(&v[..front]) + escaped_len(&rest[..end]) + lost_len(&rest[end..])
+    let ends = cut(v);
+    let front = ends.front;
+    let end = ends.end;
+    lost_len(&v[..front]) + escaped_len(&v[front..end]) + lost_len(&v[end..])
 }
 
-// Writes the value from the place at on, and gives the place behind it. The last character is looked for behind the first, so that a
-// value of one is written once.
-pub fn put_value(out: &mut [u8], at: usize, v: &[u8]) -> usize
+// Writes the value from the place at on, and gives the place behind it.
+pub fn put_value_text(out: &mut [u8], at: usize, v: &[u8]) -> usize
     requires { ⌜ at + length (valueText (now v)) ≤ length (now out) ⌝ }
     ensures placed { λ r. ⌜ r ≡ at + length (valueText (now (v .entry))) ⌝ }
     ensures wrote { λ _. ⌜ now (out .exit) ≡ pasted at (valueText (now (v .entry))) (now (out .entry)) ⌝ }
 {
-    let n = lost_front(v);
-    let tail = &v[n..];
-    let m = tail.len() - lost_back(tail);
-    let first = put_lost(out, at, &v[..n]);
-    let next = escape_header_value(out, first, &tail[..m]);
-    put_lost(out, next, &tail[m..])
+    let ends = cut(v);
+    let front = ends.front;
+    let end = ends.end;
+    let mut to = put_lost(out, at, &v[..front]);
+    to = escape_header_value(out, to, &v[front..end]);
+    put_lost(out, to, &v[end..])
 }

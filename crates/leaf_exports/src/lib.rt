@@ -80,20 +80,20 @@ pub extern "C" fn leaves_escape(out: &mut [u8], s: &[u8]) -> usize
 }
 
 #[no_mangle]
-pub extern "C" fn leaves_value_len(s: &[u8]) -> usize
+pub extern "C" fn leaves_value_text_len(s: &[u8]) -> usize
     requires { ⌜ 6 * length (now s) < 2 ^ 64 ⌝ }
     ensures { λ r. ⌜ r ≡ length (valueText (now (s .entry))) ⌝ }
 {
-    escape::values::value_len(s)
+    escape::values::value_text_len(s)
 }
 
 #[no_mangle]
-pub extern "C" fn leaves_put_value(out: &mut [u8], s: &[u8]) -> usize
+pub extern "C" fn leaves_put_value_text(out: &mut [u8], s: &[u8]) -> usize
     requires { ⌜ 0 + length (valueText (now s)) ≤ length (now out) ⌝ }
     ensures len { λ r. ⌜ r ≡ 0 + length (valueText (now (s .entry))) ⌝ }
     ensures bytes { λ _. ⌜ now (out .exit) ≡ pasted 0 (valueText (now (s .entry))) (now (out .entry)) ⌝ }
 {
-    escape::values::put_value(out, 0, s)
+    escape::values::put_value_text(out, 0, s)
 }
 
 // Whether every escape can be read.

@@ -1,7 +1,7 @@
 // Document 01, "Writing": the lines of headers and of content headers, from the store over the bytes of an output. Each function writes
 // from a place on and gives the place behind what it wrote.
 
-use escape::values::put_value;
+use escape::values::put_value_text;
 use octets::copy_at;
 use store_entries::entry_len;
 use store_entries::name_at;
@@ -83,7 +83,7 @@ fn put_header_line(out: &mut [u8], at: usize, s: &[u8], from: usize) -> usize
     to = put_byte(out, to, b':');
     to = put_param_texts(out, to, tail, count);
     to = put_byte(out, to, b' ');
-    to = put_value(out, to, value);
+    to = put_value_text(out, to, value);
     put(out, to, b"\r\n")
 }
 

@@ -1,7 +1,7 @@
 // Document 01, "Writing": how long a text is, known before its first byte is written. Only the header values and the body are looked at:
 // the store says how long the other parts are.
 
-use escape::values::value_len;
+use escape::values::value_text_len;
 use format::CpimMessage;
 use store_entries::entry_len;
 use store_entries::name_len;
@@ -38,7 +38,7 @@ fn header_len(s: &[u8], at: usize) -> usize
     requires { ⌜ (shaped (drop at (now s)) ≡ true) × (fits kind.Header (storedIn (drop at (now s))) ≡ true) × (tailHolds (storedIn (drop at (now s))) ≡ true) ⌝ }
     ensures { λ r. ⌜ (r ≡ length (ended (headerLine (headerFrom (storedIn (drop at (now (s .entry)))))))) × (r < 131072) ⌝ }
 {
-    name_len(s, at) + params_len(s, at) + value_len(value_at(s, at)) + 4
+    name_len(s, at) + params_len(s, at) + value_text_len(value_at(s, at)) + 4
 }
 
 // The lines of all headers.

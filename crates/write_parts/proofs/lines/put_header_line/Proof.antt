@@ -94,15 +94,15 @@ fourth : (c : tie.After-put-byte2)
     → Written (whole (read4 c)) (start (read4 c) .args .out .now) (c .put-byte2 .last .0) (start (read4 c) .args .at) (c .put-byte2 .result) (valueText (value (read4 c)) ++ (CRLF ++ []))
 fourth c = part-put (third (search)) (start (read4 c) .pre .2) ((space ∷ [])) (valueText (value (read4 c)) ++ (CRLF ++ [])) refl (c .put-byte2 .ensures)
 
-put-value-requires : tie.Need-put-value-requires
-put-value-requires c κs = part-room (fourth (search)) (start (read4 (search)) .pre .2) (valueText (value (read4 (search)))) (CRLF ++ []) refl
+put-value-text-requires : tie.Need-put-value-text-requires
+put-value-text-requires c κs = part-room (fourth (search)) (start (read4 (search)) .pre .2) (valueText (value (read4 (search)))) (CRLF ++ []) refl
 
-abbrev read5 : tie.After-put-value → tie.After-param-count
+abbrev read5 : tie.After-put-value-text → tie.After-param-count
 read5 c = read4 (search)
 
-fifth : (c : tie.After-put-value)
-    → Written (whole (read5 c)) (start (read5 c) .args .out .now) (c .put-value .last .0) (start (read5 c) .args .at) (c .put-value .result) (CRLF ++ [])
-fifth c = part-put (fourth (search)) (start (read5 c) .pre .2) (valueText (value (read5 c))) (CRLF ++ []) refl (c .put-value .ensures)
+fifth : (c : tie.After-put-value-text)
+    → Written (whole (read5 c)) (start (read5 c) .args .out .now) (c .put-value-text .last .0) (start (read5 c) .args .at) (c .put-value-text .result) (CRLF ++ [])
+fifth c = part-put (fourth (search)) (start (read5 c) .pre .2) (valueText (value (read5 c))) (CRLF ++ []) refl (c .put-value-text .ensures)
 
 put-requires-2 : tie.Need-put-requires-2
 put-requires-2 c κs = part-room (fifth (search)) (start (read5 (search)) .pre .2) (CRLF) ([]) refl
@@ -124,4 +124,4 @@ pub put-header-line-spec : {M : Type 1} → statement M
 put-header-line-spec =
     tie.close
     (tie.spec name-at-requires value-at-requires tail-at-requires param-count-requires put-requires put-byte-requires put-param-texts-requires
-    put-byte-requires-2 put-value-requires (λ c. search needs) put-requires-2 same-length returns)
+    put-byte-requires-2 put-value-text-requires (λ c. search needs) put-requires-2 same-length returns)

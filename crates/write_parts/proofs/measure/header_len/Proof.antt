@@ -34,11 +34,11 @@ short c =
     let start : tie.Start = search in
     omega (arith, ap length (c .value-at .ensures), value-short (drop (start .args .at) (start .args .s .now)) (start .pre .0) (start .pre .1))
 
-text-short : (c : tie.After-value-len) → c .value-len .result ≤ 6144
-text-short c = omega (arith, c .value-len .ensures, value-length (the tie.After-value-at (search) .value-at .result .now), short (search))
+text-short : (c : tie.After-value-text-len) → c .value-text-len .result ≤ 6144
+text-short c = omega (arith, c .value-text-len .ensures, value-length (the tie.After-value-at (search) .value-at .result .now), short (search))
 
-value-len-requires : tie.Need-value-len-requires
-value-len-requires c κs = omega (arith, short c)
+value-text-len-requires : tie.Need-value-text-len-requires
+value-text-len-requires c κs = omega (arith, short c)
 
 add-result-2 : tie.Need-add-result-2
 add-result-2 c = omega (arith, the tie.After-name-len (search) .name-len .ensures .1, the tie.After-params-len (search) .params-len .ensures .1, text-short c)
@@ -52,11 +52,11 @@ returns c =
     let name = the tie.After-name-len (search) .name-len .ensures in
     let params = the tie.After-params-len (search) .params-len .ensures in (
       header-at (drop (start .args .at) (start .args .s .now)) (start .pre .0) _ _ _ (name .0) (params .0)
-          (c .value-len .ensures ∙ ap (λ (v : Bytes). length (valueText v)) (the tie.After-value-at (search) .value-at .ensures)),
+          (c .value-text-len .ensures ∙ ap (λ (v : Bytes). length (valueText v)) (the tie.After-value-at (search) .value-at .ensures)),
       omega (arith, name .1, params .1, text-short c),
     )
 
 pub header-len-spec : {M : Type 1} → statement M
 header-len-spec =
     tie.close
-    (tie.spec name-len-requires params-len-requires add-result value-at-requires value-len-requires add-result-2 add-result-3 returns)
+    (tie.spec name-len-requires params-len-requires add-result value-at-requires value-text-len-requires add-result-2 add-result-3 returns)
