@@ -4,7 +4,7 @@ use mathlib.Core.Path.{_≡_}
 use mathlib.Core.List.{[], _∷_, append-assoc}
 use native.Mathlib.Omega.{arith}
 use lib.ListN.{length}
-use Rattle.format.specs.Bytes.{Bytes, ascii, pasted, LF, equals, lf}
+use Rattle.format.specs.Bytes.{Bytes, ascii, pasted, equals, lf}
 use Rattle.format.specs.Escaping.{escape}
 use Rattle.format.specs.Showing.{decimal, shown, showNumbers}
 use Rattle.report.specs.Put.{Put}

@@ -8,14 +8,14 @@ use native.Mathlib.Omega.{arith}
 use lib.Dec.{eqb}
 use lib.ListN.{length}
 use borrow.Author.Tests.{eq-eqb, ne-eqb, lt-leb, le-leb}
-use Rattle.format.specs.Bytes.{Bytes, ascii, LF, lf, pasted}
-use Rattle.format.specs.Refusals.{Out, accepted, table}
+use Rattle.format.specs.Bytes.{Bytes, ascii, LF, lf}
+use Rattle.format.specs.Refusals.{Out, table}
 use Rattle.format.specs.Message.{Message, nameOf, entryName}
 use Rattle.format.specs.Layout.{Lent, Held, message, emptyMessage}
 use Rattle.format.specs.Lending.{bothLent, Parsed}
 use Rattle.format.specs.LookingUp.{nth, mapped}
 use Rattle.format.specs.declared.Numbers.{Numbers}
-use Rattle.roundtrip.specs.Loss.{loss, lossHeld}
+use Rattle.roundtrip.specs.Loss.{lossHeld}
 use Rattle.roundtrip.specs.declared.Loss.{Loss}
 use Rattle.report.specs.Put.{Put}
 use Rattle.report.proofs.Puts.{Puts, puts, puts-nothing, puts-then, puts-as}

@@ -2,12 +2,12 @@
 use Prim.Native.Nat.{ℕ, _+_, _≤_}
 use mathlib.Core.Path.{_≡_, sym}
 use mathlib.Core.Bool.{Bool, true, false}
-use mathlib.Core.List.{[], append-assoc}
+use mathlib.Core.List.{append-assoc}
 use mathlib.Core.Option.{Option, none, some}
 use native.Mathlib.Omega.{arith}
 use lib.ListN.{length}
 use borrow.Author.Tests.{eq-eqb, ne-eqb}
-use Rattle.format.specs.Bytes.{Bytes, ascii, pasted}
+use Rattle.format.specs.Bytes.{Bytes, ascii}
 use Rattle.format.specs.Escaping.{escape}
 use Rattle.format.specs.Showing.{decimal}
 use Rattle.format.proofs.Lists.{clash}

@@ -13,7 +13,7 @@ use borrow.Author.Tests.{eq-eqb, ne-eqb}
 use Rattle.format.specs.Bytes.{Bytes, isEmpty, all}
 use Rattle.format.specs.Characters.{isUtf8}
 use Rattle.format.specs.Message.{Entry, Header, Message}
-use Rattle.format.specs.Layout.{Lent, Held, message, nothing}
+use Rattle.format.specs.Layout.{Lent, Held, message}
 use Rattle.format.specs.Demand3.{hasHeader, noParam, notType, comesBack}
 use Rattle.format.proofs.Lists.{bcase, clash}
 use Rattle.format.proofs.Texts.RoundTrip.{reads-back}
