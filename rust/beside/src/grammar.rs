@@ -1,7 +1,7 @@
 //! Random texts from a grammar: every delimiter, escape, white space and limit.
 
 use crate::names::{text_of, Kind};
-use common::Random;
+use common::{value_text, Random};
 use source::cpim::open_escape_header_value;
 use std::str::from_utf8;
 
@@ -53,17 +53,18 @@ impl Drawn {
         }
     }
 
-    /// As it is, escaped, or with escapes strewn in.
+    /// As it is, escaped, its ends too or not, or with escapes strewn in.
     fn value(&self, random: &mut Random) -> Vec<u8> {
         let mut value = match random.below(40) {
             0 => {
                 let n = random.pick(&[1_023, 1_024, 1_025]);
                 text_of(random, n)
             }
-            _ => self.kind.value(random),
+            _ => self.kind.header_value(random),
         };
         if let (true, Ok(text)) = (random.once_in(2) || self.plain, from_utf8(&value)) {
-            value = open_escape_header_value(text).into_bytes();
+            let escape = if random.once_in(4) { open_escape_header_value } else { value_text };
+            value = escape(text).into_bytes();
         }
         if random.once_in(8) {
             for _ in 0..1 + random.below(3) {
@@ -177,7 +178,7 @@ pub fn text(random: &mut Random) -> Vec<u8> {
     let shape = random.below(24);
     let odd = random.pick(&[30, 100, 1 << 30]);
     let plain = shape < 4 || random.once_in(3);
-    let kind = Kind { odd: if plain { 1 << 30 } else { odd }, long: random.once_in(12) };
+    let kind = Kind { odd: if plain { 1 << 30 } else { odd }, long: random.once_in(12), ends: random.once_in(2) };
     let separator = random.pick(&["\r\n\r\n", "\r\n\r\n", "\n\n"]);
     let ends: [&str; 8] = if separator == "\n\n" {
         ["\n", "\n", "\n", "\r\n", "\r\n", "\n", "\r", "\n"]

@@ -1,8 +1,9 @@
 //! What the programs share that run the calls, reading and writing beside the source: calls and what the source makes of them, the layout of a
-//! message and where its entries stand, the table of refusals, what comes back, lent stores, names and values, texts.
+//! message and where its entries stand, the table of refusals, what is written and what comes back, lent stores, names and values, texts.
 
 pub mod call;
 pub mod damage;
+pub mod ends;
 pub mod exports;
 pub mod grammar;
 pub mod layout;
@@ -12,3 +13,4 @@ pub mod refusals;
 pub mod spots;
 pub mod store;
 pub mod whole;
+pub mod written;

@@ -1,6 +1,7 @@
 //! Names and values: plain ones, those at and around every limit, and those that are refused.
 
-use common::Random;
+use crate::ends::with_ends;
+use common::{is_plain_white, Random};
 
 /// At every limit, one below and one above.
 const LENGTHS: [usize; 14] = [0, 1, 63, 64, 65, 127, 128, 129, 255, 256, 257, 1023, 1024, 1025];
@@ -158,11 +159,13 @@ fn odd(random: &mut Random, mut s: Vec<u8>) -> Vec<u8> {
     s
 }
 
-/// How texts are drawn: one in `odd` is at a limit or out of the ordinary; long ones where `long` is set.
+/// How texts are drawn: one in `odd` is at a limit or out of the ordinary; long ones where `long` is set. Of header values one in two has an end
+/// drawn for it where `ends` is set, and else none has white space at an end that is no control character.
 #[derive(Clone, Copy)]
 pub struct Kind {
     pub odd: usize,
     pub long: bool,
+    pub ends: bool,
 }
 
 impl Kind {
@@ -213,6 +216,16 @@ impl Kind {
         s
     }
 
+    pub fn header_value(self, random: &mut Random) -> Vec<u8> {
+        let value = self.value(random);
+        let Ok(text) = std::str::from_utf8(&value) else { return value };
+        match (self.ends, random.once_in(2)) {
+            (true, true) => with_ends(random, text).into_bytes(),
+            (true, false) => value,
+            (false, _) => text.trim_matches(is_plain_white).as_bytes().to_vec(),
+        }
+    }
+
     pub fn content_type(self, random: &mut Random) -> Vec<u8> {
         let s = if self.long {
             let n = random.pick(&[1, 255, 256]);
@@ -239,6 +252,6 @@ impl Kind {
             let first = random.below(sum + 1);
             return (text_of(random, first), text_of(random, sum - first));
         }
-        (self.value(random), self.value(random))
+        (self.header_value(random), self.value(random))
     }
 }

@@ -43,10 +43,11 @@ pub fn of(random: &mut Random, kind: Kind, function: Function) -> Call {
         SetBody => (kind.body(random), none),
         AddObj => (kind.name(random), none),
         WithParam => (kind.param(random), kind.value(random)),
-        SetHeader | AddHeader | AddContent | WithContent => (kind.name(random), kind.value(random)),
+        SetHeader | AddHeader => (kind.name(random), kind.header_value(random)),
+        AddContent | WithContent => (kind.name(random), kind.value(random)),
         Ns => kind.namespace(random),
-        SubjectLang => (kind.value(random), kind.value(random)),
-        From | To | DateTime | Subject | Cc | Require | HeaderNew => (kind.value(random), none),
+        SubjectLang => (kind.header_value(random), kind.value(random)),
+        From | To | DateTime | Subject | Cc | Require | HeaderNew => (kind.header_value(random), none),
     };
     Call { function, first, second }
 }

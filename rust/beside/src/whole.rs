@@ -1,25 +1,19 @@
-//! Which messages come back whole: by the source's own reading of the text that it writes; and what is lost first, by demand 3's
+//! Which messages come back whole: by the source's own reading of the text that must be written; and what is lost first, by demand 3's
 //! condition in its order.
 
 use cpim::raw::Loss;
 use source::cpim::{parse_cpim, CpimMessage};
 
 /// Whether the source reads the message back from its text.
-pub fn comes_back(m: &CpimMessage) -> bool {
-    let text = m.to_string().expect("the text of a message");
-    parse_cpim(&text).is_ok_and(|k| k == *m)
+pub fn comes_back(m: &CpimMessage, text: &str) -> bool {
+    parse_cpim(text).is_ok_and(|k| k == *m)
 }
 
 fn clear(s: &str) -> bool {
     s.trim() == s
 }
 
-/// No character at either end is lost: white space that is no control character.
-fn clear_value(s: &str) -> bool {
-    let lost = |c: char| c.is_whitespace() && !c.is_control();
-    !s.starts_with(lost) && !s.ends_with(lost)
-}
-
+/// A header value is not asked for: it comes back whatever its ends.
 pub fn loss(m: &CpimMessage) -> Loss {
     let headers: Vec<_> = m.headers().iter().flat_map(|(n, hs)| hs.iter().map(move |h| (n.as_str(), h))).collect();
     let contents: Vec<_> = m.content_headers().iter().map(|(n, v)| (n.as_str(), v.as_str())).collect();
@@ -32,7 +26,6 @@ pub fn loss(m: &CpimMessage) -> Loss {
         headers.iter().position(|(n, _)| !clear(n)),
         contents.iter().position(|(n, v)| !clear(n) || !clear(v)),
         whole(clear(m.content_type())),
-        headers.iter().position(|(_, h)| !clear_value(h.value())),
     ];
     let first = clauses.iter().position(Option::is_some);
     first.map_or(Loss { clause: 0, entry: 0 }, |k| Loss { clause: k + 1, entry: clauses[k].unwrap() })

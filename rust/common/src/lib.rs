@@ -5,6 +5,7 @@ mod clock;
 mod document;
 pub mod measure;
 mod random;
+mod value;
 mod words;
 mod work;
 
@@ -12,6 +13,7 @@ pub use anew::{is_one_run, run, runs, told};
 pub use clock::{clock, median};
 pub use document::{load, range, store};
 pub use random::Random;
+pub use value::{has_white_end, is_plain_white, value_text, WHITE_SPACE};
 pub use words::words;
 pub use work::in_parts;
 

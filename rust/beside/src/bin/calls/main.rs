@@ -1,5 +1,5 @@
 //! Lists of calls on a message and a header in lent stores beside the source. Prints how many calls were accepted and how often
-//! each refusal came, and how much was looked up; the first difference ends it with a failure and the list of calls.
+//! each refusal came, how many texts were written, and how much was looked up; the first difference ends it with a failure and the list of calls.
 
 mod damaged;
 mod largest;
@@ -21,6 +21,7 @@ const SCRIPTS: usize = 40;
 fn add(sum: &mut Tally, t: &Tally) {
     sum.answers.iter_mut().zip(t.answers).for_each(|(a, b)| *a += b);
     sum.functions.iter_mut().zip(t.functions).for_each(|(a, b)| *a += b);
+    sum.texts.add(&t.texts);
     sum.losses.iter_mut().zip(t.losses).for_each(|(a, b)| *a += b);
     sum.nothing_held += t.nothing_held;
     sum.scripts += t.scripts;
@@ -83,8 +84,9 @@ fn main() {
         eprintln!("a refusal was never seen in the lists: {:?}", lists.answers);
         exit(1);
     }
-    let [whole, lost @ .., nothing] = lists.losses.map(grouped);
-    println!("Come back whole: {whole}; lost first, by clause 1 to 8: {}; nothing held: {nothing}.", lost.join(", "));
+    lists.texts.say(100_000);
+    let [_, lost @ .., nothing] = lists.losses.map(grouped);
+    println!("Lost first, by clause 1 to 7: {}; nothing held: {nothing}.", lost.join(", "));
     println!("Scripts: {}.", grouped(lists.scripts));
     for (name, looked) in [("behind calls", &lists.looked), ("on damaged stores and records", &damaged.looked)] {
         println!("Lookups {name}: {}, {} places found.", grouped(looked.all()), grouped(looked.found));

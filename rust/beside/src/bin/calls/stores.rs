@@ -7,6 +7,7 @@ use beside::layout::{decode, layout, layout_alone, need, need_alone, record, rec
 use beside::refusals::{Refusal, NOTHING_HELD};
 use beside::store::Store;
 use beside::whole::{comes_back, loss};
+use beside::written::{written, Texts, Written};
 use common::Random;
 use cpim::raw::{self, Answer, HeaderRecord, Loss, Record};
 use source::cpim::{CpimHeader, CpimMessage};
@@ -14,16 +15,20 @@ use std::fmt::Debug;
 use std::process::exit;
 
 /// How often each answer was given: accepted (0), each number, 25 carrying 0 apart; how often each function was called;
-/// by clause what was lost first (9 where nothing is held); how many scripts were run; and what was looked up.
+/// how many texts were written; by clause what was lost first (the last where nothing is held); how many scripts were run; and what was looked up.
 #[derive(Clone, Default)]
 pub struct Tally {
     pub answers: [u64; 27],
     pub nothing_held: u64,
     pub functions: [u64; BY_CALLS.len()],
-    pub losses: [u64; 10],
+    pub texts: Texts,
+    pub losses: [u64; 9],
     pub scripts: u64,
     pub looked: Looked,
 }
+
+/// The number that stands for the clause where nothing is held.
+const NOTHING: usize = 9;
 
 pub struct Stores {
     pub head: Store,
@@ -79,7 +84,7 @@ impl Stores {
 
     #[cold]
     fn differ(&self, what: &str, here: &dyn Debug, rust: &dyn Debug) -> ! {
-        let mut report = format!("A list of calls differs from the source: {what}.\nhere: {here:?}\nRust: {rust:?}\n");
+        let mut report = format!("A list of calls: {what} is not as it must be.\nhere: {here:?}\nRust: {rust:?}\n");
         report += &format!("record {:?}, header's record {:?}\n", self.record, self.header_record);
         if !self.note.is_empty() {
             report += &format!("altered: {}\n", self.note);
@@ -178,18 +183,41 @@ impl Stores {
         }
     }
 
-    /// Whether it comes back whole, and what is lost first.
+    /// What is written, whether it comes back whole, and what is lost first.
     pub fn check_whole(&mut self) {
         let (head, body) = (self.head.bytes(self.head.room()), self.body.bytes(self.body.room()));
         let got = (raw::comes_back(self.record, head, body), raw::loss(self.record, head, body));
-        let want = match &self.message {
-            Some(m) => (comes_back(m), loss(m)),
-            None => (false, Loss { clause: 9, entry: 0 }),
+        let Some(m) = &self.message else {
+            self.same("what comes back", &got, &(false, Loss { clause: NOTHING, entry: 0 }));
+            self.tally.losses[8] += 1;
+            return;
         };
-        if got != want {
-            self.differ("what comes back", &got, &want);
-        }
+        let due = written(m);
+        let want = (comes_back(m, &due.text), loss(m));
+        self.same("what comes back", &got, &want);
+        self.same("the condition", &want.0, &(want.1.clause == 0));
+        self.check_written(&due);
+        self.tally.texts.compared(&due);
+        self.tally.texts.read_back(&due, want.0);
         self.tally.losses[want.1.clause] += 1;
+    }
+
+    /// The text in an output with three bytes to spare, and in one that lacks a byte.
+    fn check_written(&self, due: &Written) {
+        const SPARE: [u8; 3] = [7; 3];
+        let (head, body) = (self.head.bytes(self.head.room()), self.body.bytes(self.body.room()));
+        let len = due.text.len();
+        let mut out = vec![SPARE[0]; len + SPARE.len()];
+        let short = raw::to_string(self.record, head, body, &mut out[..len - 1]);
+        let whole = raw::to_string(self.record, head, body, &mut out);
+        let answer = |number, carried, record| Answer { number, carried, record };
+        self.same("writing", &(short, whole), &(answer(26, len as u64, 0), answer(0, 0, len)));
+        let want = [due.text.as_bytes(), &SPARE].concat();
+        if let Some(at) = (0..out.len()).find(|k| out[*k] != want[*k]) {
+            let who = if due.by_rule { "the rule" } else { "the source" };
+            let shown = |s: &[u8]| s[at..].iter().take(200).copied().collect::<Vec<u8>>().escape_ascii().to_string();
+            self.differ(&format!("the text by {who}, from byte {at} on"), &shown(&out), &shown(&want));
+        }
     }
 
     /// The lookups of some names, and of all else where no name is given, in what is held by stores of these lengths; `whole` where the body

@@ -1,11 +1,12 @@
-//! The gateway's crate beside the source: lists of calls and texts, both sides through the same lines of code. Prints how many answers were compared;
-//! the first difference ends it with a failure.
+//! The gateway's crate beside the source: lists of calls and texts, both sides through the same lines of code. Prints how many answers and how many
+//! texts were compared; the first difference ends it with a failure.
 
 mod long;
 mod side;
 
 use beside::call::Call;
 use beside::names::Kind;
+use beside::written::{written, Texts};
 use beside::{damage, grammar, random_calls, refusals, whole};
 use common::{grouped, in_parts, Random};
 use side::{here, there};
@@ -25,13 +26,14 @@ struct Both {
     trace: Vec<String>,
     answers: u64,
     refused: [u64; 27],
+    texts: Texts,
 }
 
 impl Both {
     #[cold]
     fn differ(&self, what: &str, here: &dyn Debug, there: &dyn Debug) -> ! {
         let trace = self.trace.join("\n");
-        eprintln!("{what} differs from the source.\n{trace}\nhere: {here:?}\nRust: {there:?}");
+        eprintln!("{what} is not as it must be.\n{trace}\nhere: {here:?}\nRust: {there:?}");
         exit(1)
     }
 
@@ -49,13 +51,22 @@ impl Both {
         self.same("An answer", here, there);
     }
 
-    /// Everything that can be seen of the message, and whether it comes back.
+    /// Everything that can be seen of the message, its text as it must be written, and whether it comes back.
     fn look(&mut self) {
-        let (here, there) = (self.here.seen(&NAMES), self.there.seen(&NAMES));
+        let (here, mut there) = (self.here.seen(&NAMES), self.there.seen(&NAMES));
+        let due = self.there.message.as_ref().map(written);
+        if let Some(due) = due.as_ref().filter(|due| due.by_rule) {
+            (there.text, there.display) = (due.text.clone(), due.text.clone());
+        }
+        let text = here.text.clone();
         self.same("What is seen", here, there);
-        if let (Some(m), Some(k)) = (&self.here.message, &self.there.message) {
-            let (here, there) = ((m.comes_back(), m.loss().is_none()), whole::comes_back(k));
-            self.same("What comes back", here, (there, there));
+        if let (Some(m), Some(k), Some(due)) = (&self.here.message, &self.there.message, &due) {
+            let whole = whole::comes_back(k, &due.text);
+            let read = cpim::parse_cpim(&text).as_ref() == Ok(m);
+            let here = (m.comes_back(), m.loss().is_none(), read);
+            self.texts.compared(due);
+            self.texts.read_back(due, whole);
+            self.same("What comes back", here, (whole, whole, whole));
         }
     }
 
@@ -83,7 +94,7 @@ impl Both {
 }
 
 fn list(both: &mut Both, random: &mut Random) {
-    let kind = Kind { odd: random.pick(&[4, 8, 16]), long: random.once_in(5) };
+    let kind = Kind { odd: random.pick(&[4, 8, 16]), long: random.once_in(5), ends: random.once_in(2) };
     both.call(&random_calls::new(random, kind));
     for _ in 0..random.below(40) {
         both.call(&random_calls::any(random, kind, &[]));
@@ -96,8 +107,9 @@ fn text(both: &mut Both, random: &mut Random) {
         damage::damage(random, &mut text);
     }
     both.parse(&String::from_utf8_lossy(&text));
+    let kind = Kind { odd: 8, long: false, ends: random.once_in(2) };
     for _ in 0..random.below(4) {
-        both.call(&random_calls::any(random, Kind { odd: 8, long: false }, &[]));
+        both.call(&random_calls::any(random, kind, &[]));
     }
 }
 
@@ -123,5 +135,8 @@ fn main() {
         eprintln!("an answer was never seen: {refused:?}");
         exit(1);
     }
+    let mut texts = Texts::default();
+    all.iter().for_each(|b| texts.add(&b.texts));
+    texts.say(10_000);
     println!("The gateway's crate beside Rust: {} answers, no difference", grouped(answers));
 }

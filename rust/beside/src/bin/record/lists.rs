@@ -6,7 +6,7 @@ use beside::refusals::{number, text, Refusal};
 use common::Random;
 use source::cpim::{CpimError, CpimHeader, CpimMessage};
 
-const KIND: Kind = Kind { odd: 12, long: false };
+const KIND: Kind = Kind { odd: 12, long: false, ends: true };
 
 fn put_number(script: &mut Vec<u8>, n: usize) {
     script.extend((n as u32).to_le_bytes());
@@ -28,7 +28,7 @@ pub fn new(content_type: &[u8], body: &[u8]) -> Result<CpimMessage, Refusal> {
 /// A header alone with up to three parameters; those that are refused are left out.
 fn header(random: &mut Random) -> CpimHeader {
     let mut h = CpimHeader::new("v").expect("a value");
-    if let Ok(value) = std::str::from_utf8(&KIND.value(random)) {
+    if let Ok(value) = std::str::from_utf8(&KIND.header_value(random)) {
         h = CpimHeader::new(value).unwrap_or(h);
     }
     for _ in 0..random.below(4) {
@@ -80,13 +80,14 @@ fn step(random: &mut Random, script: &mut Vec<u8>, m: &CpimMessage) -> Option<Cp
         put_argument(script, &layout_alone(&h));
         return after.add_header_obj(text(&name).ok()?, h).ok().map(|()| after);
     }
-    let two = matches!(call, 1 | 2 | 4 | 9 | 11 | 13);
-    let first = if matches!(call, 1 | 2 | 4 | 13) { KIND.name(random) } else { KIND.value(random) };
-    let second = if two { KIND.value(random) } else { Vec::new() };
+    let first = if matches!(call, 1 | 2 | 4 | 13) { KIND.name(random) } else { KIND.header_value(random) };
     put_argument(script, &first);
-    if two {
-        put_argument(script, &second);
-    }
+    let second = match call {
+        1 | 2 => KIND.header_value(random),
+        4 | 9 | 11 | 13 => KIND.value(random),
+        _ => return called(m, call, text(&first).ok()?, "").ok(),
+    };
+    put_argument(script, &second);
     called(m, call, text(&first).ok()?, text(&second).ok()?).ok()
 }
 

@@ -1,14 +1,14 @@
 //! Texts: most have a header or two and are accepted, or are refused in one line; and one at and past each limit.
 
 use beside::names::{text_of, Kind};
-use common::Random;
+use common::{value_text, Random};
 
-const KIND: Kind = Kind { odd: 40, long: false };
+const KIND: Kind = Kind { odd: 40, long: false, ends: true };
 
 #[rustfmt::skip]
-const VALUES: [&str; 22] = [
-    "Hi", "a \\\"b\\\"", "\\u0041", "\\u+041", "\\u00e9", "\\ud800", "\\q", "\\", "\\u12", "\\t", "\\\\", " \u{a0}x\u{2003} ", "\u{85}", "\\u0020a",
-    "<im:a@b>", "", "é", "\\u001f", "a: b", "; p=q", "\\n\\r\\b", "\\'",
+const VALUES: [&str; 25] = [
+    "Hi", "x\\u00a0", "a \\\"b\\\"", "\\u0041", "\\u+041", "\\u00e9", "\\ud800", "\\q", "\\", "\\u12", "\\t", "\\\\", " \u{a0}x\u{2003} ", "\u{85}", "\\u0020a",
+    "\\u0020", "\\u3000\\u3000", "<im:a@b>", "", "é", "\\u001f", "a: b", "; p=q", "\\n\\r\\b", "\\'",
 ];
 const PARAMS: [&str; 13] =
     ["", "", "", "", "", "", ";lang=en", ";a=1;a=2", ";depot = north ", ";x", ";=x", ";a=\"b\"", ";a\"b=c"];
@@ -51,10 +51,10 @@ fn header(random: &mut Random, s: &mut Vec<u8>) {
     s.extend(mostly(random, &PARAMS, 10, 12));
     s.extend(if random.once_in(25) { "" } else { ":" }.as_bytes());
     s.extend(pad.as_bytes());
-    if random.once_in(3) {
-        s.extend(KIND.value(random));
-    } else {
-        s.extend(mostly(random, &VALUES, 5, 3));
+    match random.below(4) {
+        0 => s.extend(KIND.value(random)),
+        1 => s.extend(value_text(&String::from_utf8_lossy(&KIND.header_value(random))).into_bytes()),
+        _ => s.extend(mostly(random, &VALUES, 6, 3)),
     }
 }
 

@@ -5,8 +5,11 @@ use crate::pattern::Pattern;
 use crate::tally::Tally;
 use beside::layout::{layout, record};
 use beside::store::Store;
+use beside::whole::loss;
+use beside::written::{written, Written};
 use common::Random;
 use cpim::raw::{self, Answer, Record};
+use source::cpim::CpimMessage;
 use std::fmt::Debug;
 use std::process::exit;
 
@@ -41,10 +44,7 @@ fn shown(s: &[u8]) -> String {
 
 #[cold]
 pub fn differ(what: &str, input: &dyn Debug, text: &[u8], here: &dyn Debug, rust: &dyn Debug) -> ! {
-    eprintln!(
-        "{what} differs from the source.\ntext: {}\nwith: {input:?}\nhere: {here:?}\nRust: {rust:?}",
-        shown(text)
-    );
+    eprintln!("{what} is not as it must be.\ntext: {}\nwith: {input:?}\nhere: {here:?}\nRust: {rust:?}", shown(text));
     exit(1)
 }
 
@@ -89,18 +89,23 @@ impl Compared {
             self.read_body(text, &reading, buffer);
         }
         if let Ok(m) = &reading.answer {
-            let written = m.to_string().expect("the text of a message that was read");
-            self.write(text, &reading, written.as_bytes());
-            let again = self.lend(written.as_bytes());
-            self.again(again.bytes(written.len()));
-            unchanged(&again, written.as_bytes());
+            let due = written(m);
+            self.write(text, &reading, &due);
+            self.again(m, &due);
         }
         unchanged(&lent, text);
     }
 
-    /// Reads a text that was written.
-    fn again(&mut self, text: &[u8]) {
+    /// Reads what was written for a message: it gives that message back exactly where no clause of the condition fails.
+    fn again(&mut self, m: &CpimMessage, due: &Written) {
+        let lent = self.lend(due.text.as_bytes());
+        let text = lent.bytes(due.text.len());
         let reading = Reading::of(text);
+        let whole = reading.answer.as_ref() == Ok(m);
+        if whole != (loss(m).clause == 0) {
+            differ("What comes back", &loss(m), text, &reading.answer, m);
+        }
+        self.tally.texts.read_back(due, whole);
         let need = reading.peaks.last().copied().unwrap_or(256);
         let body = reading.body.as_ref().map_or(0, Vec::len);
         let lengths = [(need, body), (need - 1, body), (need + self.random.below(9), body + 5)];
@@ -109,6 +114,7 @@ impl Compared {
             self.read(text, &reading, *head, *body);
         }
         self.read_heads(text, &reading, lengths);
+        unchanged(&lent, text);
     }
 
     /// A text with watched bytes around it.

@@ -23,6 +23,7 @@ fn sections() -> Vec<(Vec<String>, Vec<String>)> {
     for (escape, bytes) in [("\\n", 1), ("\\u0001", 1), ("\\u00e9", 2), ("\\u20ac", 3)] {
         (1_023..=1_026).for_each(|n| header(format!("From: {}{}", escape.repeat(n / bytes), "x".repeat(n % bytes))));
     }
+    (1_023..=1_025).for_each(|n| header(format!("From: \\u0020{}\\u0020", " ".repeat(n - 2))));
     for n in 9..=11 {
         let params = |name: &dyn Fn(usize) -> usize| (0..n).map(|k| format!(";p{}=v{k}", name(k))).collect::<String>();
         header(format!("From{}: a", params(&|k| k)));
@@ -56,10 +57,9 @@ fn sections() -> Vec<(Vec<String>, Vec<String>)> {
     all
 }
 
-/// 50 headers of 10 parameters each and 20 content headers, all of the greatest lengths; values of the given character, escaped.
-fn largest(c: &str) -> (Vec<String>, Vec<String>) {
+/// 50 headers of 10 parameters each and 20 content headers, all of the greatest lengths; of the given value.
+fn largest(value: String) -> (Vec<String>, Vec<String>) {
     let params: String = (0..10).map(|k| format!(";{k}{}={}", of('p', 63), of('é', 256))).collect();
-    let value = c.repeat(1_024);
     let headers = (0..50).map(|k| format!("{:02}{}{params}: {value}", k * 7 % 50, of('é', 126))).collect();
     let contents = (0..20).map(|k| format!("{:02}{}: {}", k * 7 % 20, of('c', 126), of('v', 1_024)));
     (headers, contents.chain([format!("Content-type: {}", of('t', 256))]).collect())
@@ -67,7 +67,8 @@ fn largest(c: &str) -> (Vec<String>, Vec<String>) {
 
 pub fn texts(c: &mut Compared, part: usize, _: bool) {
     let mut all = sections();
-    all.extend(["x", "\\u0001", "\\n"].map(largest));
+    all.extend(["x", "\\u0001", "\\n"].map(|c| largest(c.repeat(1_024))));
+    all.push(largest(format!("\\u3000{}\\u2003", "\\u0001".repeat(1_018))));
     let ends = [["\r\n\r\n", "\r\n"], ["\n\n", "\n"], ["\r\n\r\n", "\n"], ["\n\n", "\r\n"]];
     for (k, (headers, contents)) in all.iter().enumerate().skip(part).step_by(crate::PARTS) {
         for [separator, end] in ends {

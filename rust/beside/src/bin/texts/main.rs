@@ -23,7 +23,7 @@ const PARTS: usize = 64;
 
 type Group = (&'static str, fn(&mut Compared, usize, bool));
 
-const GROUPS: [Group; 9] = [
+const GROUPS: [Group; 10] = [
     ("bodies and texts at their limits", long::texts),
     ("every limit", limits::texts),
     ("separators: every text of a few pieces", pieces::separators),
@@ -31,6 +31,7 @@ const GROUPS: [Group; 9] = [
     ("header lines: every one of a few pieces", pieces::header_lines),
     ("content lines: every one of a few pieces", pieces::content_lines),
     ("escapes: every value of a few pieces", pieces::escapes),
+    ("ends of header values: every value of a few characters", pieces::ends),
     ("texts from a grammar", |c, part, long| random(c, part, long, false)),
     ("texts from a grammar, damaged", |c, part, long| random(c, part, long, true)),
 ];
@@ -83,6 +84,7 @@ fn main() {
     println!("Bodies without a store: {} found; by refusal: {}.", grouped(all.bodies[0]), listed(&all.bodies));
     let [written, nothing, short] = all.written.map(grouped);
     println!("Written: {written}; 25 carrying 0: {nothing}, 26: {short}.");
+    all.texts.say(100_000);
     let bodies = [0, 1, 2, 23, 24, 26].map(|k| all.bodies[k]);
     let [in_text, in_buffer, none] = all.parts.map(grouped);
     println!("The second call for the body: {in_text} in the text, {in_buffer} in the buffer, {none} without a body.");

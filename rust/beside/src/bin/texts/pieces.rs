@@ -1,7 +1,7 @@
 //! Every text of a few pieces, in each place of a message.
 
 use crate::compared::Compared;
-use common::words;
+use common::{value_text, words, WHITE_SPACE};
 
 /// What the format cares about, and some that it does not.
 #[rustfmt::skip]
@@ -81,4 +81,14 @@ pub fn escapes(c: &mut Compared, part: usize, long: bool) {
     let letters = ["\\", "u", "0", "+", "d", "8", "n", "\"", "é", "'", " ", "\u{85}", "A"];
     let frames = [["message/cpim\n\nTo:", "\n\n\n\n"], ["message/cpim\r\n\r\nTo: \\u00", "\r\n\r\n\r\n\r\n"]];
     each(c, part, &letters, if long { 5 } else { 4 }, &frames);
+}
+
+/// Values of white space of every kind and of what it stands next to, escaped by the rule, so that they are held and written.
+pub fn ends(c: &mut Compared, part: usize, long: bool) {
+    let white = WHITE_SPACE.map(|c| value_text(&c.to_string()));
+    let beside =
+        ["\u{200b}", "\u{feff}", "\u{180e}", "\\b", "\\u007f", "\\u009f", "\\\"", "\\\\", "a", "é", "€", "\u{1f600}"];
+    let letters: Vec<&str> = white.iter().map(String::as_str).chain(beside).collect();
+    let frame = ["message/cpim\r\n\r\nTo: ", "\r\n\r\nContent-type: a\r\n\r\nHi"];
+    each(c, part, &letters, if long { 4 } else { 3 }, &[frame]);
 }

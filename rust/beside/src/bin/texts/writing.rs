@@ -4,21 +4,21 @@ use crate::compared::{differ, few, Compared, MANY};
 use crate::expected::Reading;
 use beside::layout::held;
 use beside::refusals::{Refusal, NOTHING_HELD};
+use beside::written::{written, Written};
 use cpim::raw::{self, Answer, Record};
-use source::cpim::CpimMessage;
 
 impl Compared {
     /// The text of what was read, whole, and with the record, a byte or a store's length altered.
-    pub fn write(&mut self, text: &[u8], reading: &Reading, written: &[u8]) {
+    pub fn write(&mut self, text: &[u8], reading: &Reading, due: &Written) {
         let m = reading.answer.as_ref().expect("a message");
         let need = *reading.peaks.last().unwrap();
         let (head, body) = (need + self.random.below(3), m.body().len() + self.random.below(3));
         let record = self.read(text, reading, head, body);
-        let spare = self.random.below(40);
-        for out in [written.len(), written.len() - 1, written.len() + spare, 0].into_iter().take(few(text)) {
-            self.written(text, record, (head, body), out, Ok(written));
+        let (len, spare) = (due.text.len(), self.random.below(40));
+        for out in [len, len - 1, len + spare, 0].into_iter().take(few(text)) {
+            self.written(text, record, (head, body), out, Ok(due));
         }
-        if written.len() > MANY {
+        if len > MANY {
             return;
         }
         for kind in 0..4 {
@@ -41,11 +41,10 @@ impl Compared {
                 _ => self.head.put(at, &[b]),
             }
             let held = held(r, self.head.bytes(lengths.0), Some(self.body.bytes(lengths.1)));
-            let want =
-                held.as_ref().ok_or(NOTHING_HELD).map(|m: &CpimMessage| m.to_string().expect("a text").into_bytes());
-            let len = want.as_ref().map_or(written.len(), Vec::len);
+            let due = held.as_ref().map(written).ok_or(NOTHING_HELD);
+            let len = due.as_ref().map_or(len, |due| due.text.len());
             for out in [len + 3, len.saturating_sub(1)] {
-                self.written(text, r, lengths, out, want.as_deref().map_err(|e| *e));
+                self.written(text, r, lengths, out, due.as_ref().map_err(|e| *e));
             }
         }
     }
@@ -57,16 +56,17 @@ impl Compared {
         record: Record,
         (head, body): (usize, usize),
         out: usize,
-        due: Result<&[u8], Refusal>,
+        due: Result<&Written, Refusal>,
     ) {
         self.pattern.lay(&mut self.out, out);
         let got = raw::to_string(record, self.head.bytes(head), self.body.bytes(body), self.out.lent(out));
         let want = match due {
-            Ok(t) if t.len() <= out => {
-                self.out.must(t);
-                Answer { number: 0, carried: 0, record: t.len() }
+            Ok(due) if due.text.len() <= out => {
+                self.out.must(due.text.as_bytes());
+                self.tally.texts.compared(due);
+                Answer { number: 0, carried: 0, record: due.text.len() }
             }
-            Ok(t) => Answer { number: 26, carried: t.len() as u64, record: 0 },
+            Ok(due) => Answer { number: 26, carried: due.text.len() as u64, record: 0 },
             Err((number, carried)) => Answer { number, carried, record: 0 },
         };
         self.tally.written[[0, 25, 26].iter().position(|n| *n == want.number).unwrap()] += 1;
