@@ -12,6 +12,8 @@ mod raw {
         pub fn leaves_put_replaced(out: *mut u8, m: usize, s: *const u8, n: usize) -> usize;
         pub fn leaves_escaped_len(s: *const u8, n: usize) -> usize;
         pub fn leaves_escape(out: *mut u8, m: usize, s: *const u8, n: usize) -> usize;
+        pub fn leaves_value_len(s: *const u8, n: usize) -> usize;
+        pub fn leaves_put_value(out: *mut u8, m: usize, s: *const u8, n: usize) -> usize;
         pub fn leaves_reads(s: *const u8, n: usize) -> bool;
         pub fn leaves_unescaped_len(s: *const u8, n: usize) -> usize;
         pub fn leaves_unescape(out: *mut u8, m: usize, s: *const u8, n: usize) -> usize;
@@ -70,6 +72,18 @@ pub fn escaped_len(s: &[u8]) -> usize {
 pub fn escape(out: &mut [u8], s: &[u8]) -> usize {
     assert!(escaped_len(s) <= out.len());
     unsafe { raw::leaves_escape(out.as_mut_ptr(), out.len(), s.as_ptr(), s.len()) }
+}
+
+/// The length of a header value as it is written, with the rule for its ends.
+pub fn value_len(s: &[u8]) -> usize {
+    assert!(s.len() < 1 << 60);
+    unsafe { raw::leaves_value_len(s.as_ptr(), s.len()) }
+}
+
+/// Writes a header value so to the start of `out` and gives the length.
+pub fn put_value(out: &mut [u8], s: &[u8]) -> usize {
+    assert!(value_len(s) <= out.len());
+    unsafe { raw::leaves_put_value(out.as_mut_ptr(), out.len(), s.as_ptr(), s.len()) }
 }
 
 /// Whether every escape of `s` can be read.

@@ -18,8 +18,8 @@ macro_rules! leaves {
 }
 
 leaves! {
-    is_utf8 is_white is_control trim replaced_len put_replaced escaped_len escape reads unescaped_len unescape find find_plain
-    joined_len join_into copy_at shift zero_fill before same same_letters says find_byte
+    is_utf8 is_white is_control trim replaced_len put_replaced escaped_len escape value_len put_value reads unescaped_len unescape
+    find find_plain joined_len join_into copy_at shift zero_fill before same same_letters says find_byte
 }
 
 /// How many bytes before and behind lent room are watched, and how much room is lent at most.
@@ -32,6 +32,8 @@ const SPARE: [usize; 8] = [0, 1, 0, 3, 16, 0, 31, 64];
 
 pub struct Compared {
     pub answers: [u64; LEAVES.len()],
+    /// How many header values were written as the source escapes them, and how many by the rule for their ends.
+    pub values: [u64; 2],
     pattern: Vec<u8>,
     here: Vec<u8>,
     there: Vec<u8>,
@@ -62,7 +64,8 @@ impl Compared {
     pub fn new() -> Self {
         let mut random = Random::new(1);
         let pattern: Vec<u8> = (0..ROOM + 2 * MARGIN + TURNS).map(|_| random.byte()).collect();
-        Compared { answers: [0; LEAVES.len()], here: pattern.clone(), there: pattern.clone(), pattern, turn: 0 }
+        let (here, there) = (pattern.clone(), pattern.clone());
+        Compared { answers: [0; LEAVES.len()], values: [0; 2], here, there, pattern, turn: 0 }
     }
 
     pub fn expect<T: PartialEq + Debug>(&mut self, leaf: Leaf, input: &dyn Debug, got: T, want: T) {

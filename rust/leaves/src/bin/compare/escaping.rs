@@ -13,7 +13,7 @@ fn writes(c: &mut Compared, s: &[u8]) -> Vec<u8> {
     want
 }
 
-fn reads_as(c: &mut Compared, s: &[u8]) {
+pub fn reads_as(c: &mut Compared, s: &[u8]) {
     let want = unescaped(s);
     c.expect(Leaf::reads, &s, reads(s), want.is_some());
     c.expect(Leaf::unescaped_len, &s, unescaped_len(s), want.as_ref().map_or(0, Vec::len));

@@ -1,7 +1,7 @@
 //! Texts longer than any block and than 16 bits can count, and one of the greatest length that is read.
 
 use crate::compared::Compared;
-use crate::{characters, escaping, octets, search, utf8};
+use crate::{characters, escaping, octets, search, utf8, values};
 
 const LENGTHS: [usize; 8] = [4_095, 16_384, 65_535, 65_536, 65_537, 131_072, 262_143, 300_000];
 const GREATEST: usize = 20_971_520;
@@ -23,6 +23,7 @@ pub fn texts(c: &mut Compared, part: usize) {
             utf8::bytes(c, s);
             characters::trims(c, s);
             escaping::both(c, s);
+            values::writes(c, s);
             search::joins(c, s);
             search::finds(c, s, end.as_bytes());
             search::finds(c, s, &[b"xx", end.as_bytes(), b"x"].concat());
@@ -36,6 +37,8 @@ pub fn texts(c: &mut Compared, part: usize) {
     }
     characters::trims(c, " ".repeat(*len).as_bytes());
     characters::trims(c, "\u{2003}".repeat(*len).as_bytes());
+    values::writes(c, " ".repeat(*len).as_bytes());
+    values::writes(c, "\u{2003}".repeat(*len).as_bytes());
     escaping::both(c, "\u{1}\u{9F}".repeat(*len / 2).as_bytes());
     search::joins(c, "\n".repeat(*len).as_bytes());
     octets::compares(c, &plain, &ended(b"X"));

@@ -1,5 +1,6 @@
 //! What Rust answers: the standard library and the source on texts, and both carried over to bytes that are not UTF-8.
 
+use common::value_text;
 use source::cpim::{open_escape_header_value, open_unescape_header_value};
 use std::borrow::Cow;
 use std::str::from_utf8;
@@ -30,6 +31,20 @@ pub fn escaped(s: &[u8]) -> Vec<u8> {
     let mut all = Vec::new();
     for chunk in s.utf8_chunks() {
         all.extend_from_slice(open_escape_header_value(chunk.valid()).as_bytes());
+        all.extend_from_slice(chunk.invalid());
+    }
+    all
+}
+
+/// A header value by document 02's T-03. An ill-formed subpart is written as it is; a letter put in its place next to a well-formed part, and taken
+/// away again, tells that this part does not reach the end of the value there.
+pub fn value(s: &[u8]) -> Vec<u8> {
+    let mut all = Vec::new();
+    for (k, chunk) in s.utf8_chunks().enumerate() {
+        let before = if k == 0 { "" } else { "x" };
+        let behind = if chunk.invalid().is_empty() { "" } else { "x" };
+        let text = value_text(&[before, chunk.valid(), behind].concat());
+        all.extend_from_slice(&text.as_bytes()[before.len()..text.len() - behind.len()]);
         all.extend_from_slice(chunk.invalid());
     }
     all
