@@ -71,7 +71,7 @@ typedef struct {
 
 /* Why a message does not come back from its text, and for which header or content header in map order, counting from 0. Clause 0: it does; 1 no
  * header; 2 a header has a parameter; 3 the body is not UTF-8; 4 a content header is called Content-type; white space at an end of 5 a header name,
- * 6 a content header's name or value, 7 the content type, 8 a header value (control characters apart); 9 nothing is held. */
+ * 6 a content header's name or value, 7 the content type; 9 nothing is held. 8 is not given: header values come back whatever their ends. */
 typedef struct {
     size_t clause;
     size_t entry;
@@ -192,7 +192,9 @@ cpim_answer_t cpim_with_content_header(cpim_message_t m, uint8_t *head, size_t h
 cpim_message_t cpim_run(const uint8_t *script, size_t script_len, cpim_message_t m, uint8_t *head, size_t head_len,
                         uint8_t *body, size_t body_len);
 
-/* Writes the message's text to the start of out, and gives its length. 26 carries that length too, so an empty out asks for it. 25 carrying 0, 26. */
+/* Writes the message's text to the start of out, and gives its length. Where the first or last character of a header value is white space and not a
+ * control character, it is written as \u and four lower-case hexadecimal digits, so that it comes back. 26 carries the length too, so an empty out asks
+ * for it. 25 carrying 0, 26. */
 cpim_length_answer_t cpim_to_string(cpim_message_t m, const uint8_t *head, size_t head_len, const uint8_t *body,
                                     size_t body_len, uint8_t *out, size_t out_len);
 

@@ -155,7 +155,8 @@ impl<B: AsRef<[u8]>> Message<'_, B> {
         with_require(feature)
     }
 
-    /// Writes the message's text to the start of `out` and gives its length.
+    /// Writes the message's text to the start of `out` and gives its length. Where `out` is too short, 26 carries that length. The ends of header values
+    /// are written as by [`CpimMessage::to_string`](crate::CpimMessage::to_string).
     pub fn write(&self, out: &mut [u8]) -> Result<usize, Refusal> {
         raw::to_string(self.record, self.head, self.body.as_ref(), out).accepted()
     }

@@ -38,6 +38,8 @@
 //! - The unchecked doors (`new_unchecked`, `set_header_unchecked`) are left out: no message is held that is not valid.
 //! - [`CpimMessage`] is a record and two stores; [`CpimMessage::headers`], [`CpimMessage::content_headers`] and [`CpimHeader::params`] make their
 //!   maps at their first use. [`SmolStr`] is this crate's own; there is no dependency.
+//! - White space at an end of a header value is written as `\u` and four hexadecimal digits, control characters as there: what a clerk pasted with a
+//!   no-break space at its end comes back ([`CpimMessage::to_string`]).
 //! - Each call judges the whole message anew before it changes it, so a list of calls on a message of many headers costs more.
 //! - Added: [`CpimMessage::comes_back`] and [`CpimMessage::loss`]; [`CpimError::number`], [`CpimError::carried`] and [`CpimError::refusal`]; [`lent`],
 //!   messages in stores that the caller lends, nothing being allocated; [`raw`], the C functions as they are.

@@ -5,7 +5,7 @@ use crate::raw::{self, text, Record};
 use std::fmt;
 
 /// Why a message does not come back from its text: the first clause of demand 3 that fails (crates/roundtrip/specs/Loss.antt), and for which header
-/// or content header, by its number in map order, counting from 0, and its name.
+/// or content header, by its number in map order, counting from 0, and its name. No clause is about header values: they come back whatever their ends.
 #[derive(Debug, Clone, Copy, PartialEq, Eq)]
 pub enum Loss<'a> {
     /// There is no header: the text lacks a section, so it is refused, or read as another message where the body has a blank line.
@@ -22,8 +22,6 @@ pub enum Loss<'a> {
     ContentHeader { content_header: usize, name: &'a str },
     /// White space at an end of the content type is trimmed.
     ContentType,
-    /// White space at an end of a header value, other than control characters, is trimmed.
-    HeaderValue { header: usize, name: &'a str },
 }
 
 impl<'a> Loss<'a> {
@@ -40,7 +38,6 @@ impl<'a> Loss<'a> {
             5 => Loss::HeaderName { header, name: name(record, head, entry) },
             6 => Loss::ContentHeader { content_header, name: name(record, head, record.headers + entry) },
             7 => Loss::ContentType,
-            8 => Loss::HeaderValue { header, name: name(record, head, entry) },
             0 => return None,
             clause => unreachable!("clause {clause} of a message that is held"),
         })
@@ -80,9 +77,6 @@ impl fmt::Display for Loss<'_> {
                 entry("content header", content_header, name, why)
             }
             Loss::ContentType => f.write_str("its type has white space at an end: it is trimmed when read"),
-            Loss::HeaderValue { header, name } => {
-                entry("header", header, name, "has white space at an end of its value: it is trimmed when read")
-            }
         }
     }
 }

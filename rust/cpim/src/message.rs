@@ -183,6 +183,18 @@ impl CpimMessage {
     }
 
     /// Formats the CPIM message as a string.
+    ///
+    /// Where the first or last character of a header value is white space and not a control character, it is written as `\u` and four hexadecimal
+    /// digits, so that it comes back:
+    ///
+    /// ```
+    /// let m = cpim::CpimMessage::new("text/plain", b"Found on line 4".to_vec())?.with_subject("Black umbrella\u{a0}")?;
+    /// let text = m.to_string()?;
+    /// assert!(text.contains("\r\nSubject: Black umbrella\\u00a0\r\n"));
+    /// assert!(m.comes_back());
+    /// assert_eq!(cpim::parse_cpim(&text)?.get_header("Subject"), Some("Black umbrella\u{a0}"));
+    /// # Ok::<(), cpim::CpimError>(())
+    /// ```
     pub fn to_string(&self) -> Result<String, CpimError> {
         // A header or content header is written in fewer bytes than it is stored in, unless much of it is escaped; the rest is 50 bytes, the
         // type and the body, unless that is not UTF-8. Where more is needed, 26 says how much.
@@ -198,7 +210,7 @@ impl CpimMessage {
         }
     }
 
-    /// Whether reading the message's text gives this very message. Proved: yes exactly when it does.
+    /// Whether reading the message's text gives this very message. Proved: yes exactly when it does. The ends of header values play no part in it.
     pub fn comes_back(&self) -> bool {
         raw::comes_back(self.record, &self.head, &self.body)
     }
@@ -275,6 +287,7 @@ impl fmt::Debug for CpimMessage {
     }
 }
 
+/// The text of [`to_string`](CpimMessage::to_string).
 impl fmt::Display for CpimMessage {
     fn fmt(&self, f: &mut fmt::Formatter<'_>) -> fmt::Result {
         f.write_str(&self.to_string().map_err(|_| fmt::Error)?)

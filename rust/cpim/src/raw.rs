@@ -85,7 +85,7 @@ impl HeadAnswer {
     }
 }
 
-/// The clause of demand 3 that fails first, 0 where none does, 9 where nothing is held; and for which entry.
+/// The clause of demand 3 that fails first, from 1 to 7, 0 where none does, 9 where nothing is held; and for which entry.
 #[repr(C)]
 #[derive(Clone, Copy, Debug, PartialEq, Eq)]
 pub struct Loss {
@@ -231,7 +231,8 @@ pub fn read_body(text: &[u8], buffer: &mut [u8]) -> Answer<usize> {
     unsafe { cpim_read_body(text.as_ptr(), text.len(), buffer.as_mut_ptr(), buffer.len()) }
 }
 
-/// Writes the message's text to the start of `out` and gives its length.
+/// Writes the message's text to the start of `out` and gives its length. White space at an end of a header value is written as `\u` and four
+/// hexadecimal digits, control characters as everywhere.
 pub fn to_string(m: Record, head: &[u8], body: &[u8], out: &mut [u8]) -> Answer<usize> {
     let (h, b) = (head, body);
     unsafe { cpim_to_string(m, h.as_ptr(), h.len(), b.as_ptr(), b.len(), out.as_mut_ptr(), out.len()) }

@@ -57,11 +57,6 @@ fn each_clause_in_words() {
             "content header 1 in the order of names, a, has",
         ),
         (typed, Loss::ContentType, "its type has white space"),
-        (
-            with("To", " a"),
-            Loss::HeaderValue { header: 2, name: "To" },
-            "header 3 in the order of names, To, has white space",
-        ),
     ];
     for (m, loss, words) in cases {
         assert_eq!(m.loss(), Some(loss));
