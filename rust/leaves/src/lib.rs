@@ -12,8 +12,8 @@ mod raw {
         pub fn leaves_put_replaced(out: *mut u8, m: usize, s: *const u8, n: usize) -> usize;
         pub fn leaves_escaped_len(s: *const u8, n: usize) -> usize;
         pub fn leaves_escape(out: *mut u8, m: usize, s: *const u8, n: usize) -> usize;
-        pub fn leaves_value_len(s: *const u8, n: usize) -> usize;
-        pub fn leaves_put_value(out: *mut u8, m: usize, s: *const u8, n: usize) -> usize;
+        pub fn leaves_value_text_len(s: *const u8, n: usize) -> usize;
+        pub fn leaves_put_value_text(out: *mut u8, m: usize, s: *const u8, n: usize) -> usize;
         pub fn leaves_reads(s: *const u8, n: usize) -> bool;
         pub fn leaves_unescaped_len(s: *const u8, n: usize) -> usize;
         pub fn leaves_unescape(out: *mut u8, m: usize, s: *const u8, n: usize) -> usize;
@@ -75,15 +75,15 @@ pub fn escape(out: &mut [u8], s: &[u8]) -> usize {
 }
 
 /// The length of a header value as it is written, with the rule for its ends.
-pub fn value_len(s: &[u8]) -> usize {
+pub fn value_text_len(s: &[u8]) -> usize {
     assert!(s.len() < 1 << 60);
-    unsafe { raw::leaves_value_len(s.as_ptr(), s.len()) }
+    unsafe { raw::leaves_value_text_len(s.as_ptr(), s.len()) }
 }
 
 /// Writes a header value so to the start of `out` and gives the length.
-pub fn put_value(out: &mut [u8], s: &[u8]) -> usize {
-    assert!(value_len(s) <= out.len());
-    unsafe { raw::leaves_put_value(out.as_mut_ptr(), out.len(), s.as_ptr(), s.len()) }
+pub fn put_value_text(out: &mut [u8], s: &[u8]) -> usize {
+    assert!(value_text_len(s) <= out.len());
+    unsafe { raw::leaves_put_value_text(out.as_mut_ptr(), out.len(), s.as_ptr(), s.len()) }
 }
 
 /// Whether every escape of `s` can be read.

@@ -18,7 +18,7 @@ macro_rules! leaves {
 }
 
 leaves! {
-    is_utf8 is_white is_control trim replaced_len put_replaced escaped_len escape value_len put_value reads unescaped_len unescape
+    is_utf8 is_white is_control trim replaced_len put_replaced escaped_len escape value_text_len put_value_text reads unescaped_len unescape
     find find_plain joined_len join_into copy_at shift zero_fill before same same_letters says find_byte
 }
 

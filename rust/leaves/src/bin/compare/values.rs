@@ -45,9 +45,9 @@ pub fn writes(c: &mut Compared, s: &[u8]) -> Vec<u8> {
         assert_eq!(unescaped(trimmed(&want)).as_deref(), Some(s), "{text:?}");
     }
     c.values[usize::from(by_rule)] += 1;
-    c.expect(Leaf::value_len, &s, value_len(s), want.len());
+    c.expect(Leaf::value_text_len, &s, value_text_len(s), want.len());
     let len = want.len() + c.spare();
-    c.expect_written(Leaf::put_value, &s, len, |out| put_value(out, s), |out| put(out, &want));
+    c.expect_written(Leaf::put_value_text, &s, len, |out| put_value_text(out, s), |out| put(out, &want));
     want
 }
 
