@@ -71,7 +71,8 @@ typedef struct {
 
 /* Why a message does not come back from its text, and for which header or content header in map order, counting from 0. Clause 0: it does; 1 no
  * header; 2 a header has a parameter; 3 the body is not UTF-8; 4 a content header is called Content-type; white space at an end of 5 a header name,
- * 6 a content header's name or value, 7 the content type; 9 nothing is held. 8 is not given: header values come back whatever their ends. */
+ * 6 a content header's name or value, 7 the content type; 9 nothing is held. 8 is not given: what stands at the
+ * ends of a header value is written so that it comes back. */
 typedef struct {
     size_t clause;
     size_t entry;

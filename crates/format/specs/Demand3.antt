@@ -42,7 +42,7 @@ unfoldable pub clearContent : Entry → Bool
 clearContent e = clearEnds isWhite (e .name) && clearEnds isWhite (e .value)
 
 -- M has a header, no header parameter, a UTF-8 body, no content header called Content-type, and no white space at either end of a header
--- name, content header name, content header value or content type. Header values come back whatever their ends (document 02, T-03).
+-- name, content header name, content header value or content type. The ends of header values are free (document 02, T-03).
 unfoldable pub comesBack : Message → Bool
 comesBack m =
     hasHeader (m .headers)

@@ -71,11 +71,12 @@ pub reason-short : (n : ℕ) → length (reason n) ≤ 80
 unfolding reasons reason fit all
 reason-short n = row-short n reasons refl
 
--- every number that a loss can have has words, and no other has
+-- every number that a loss can have has words
 pub reasons-given : all (λ n. not (isEmpty (reason n))) (0 ∷ 1 ∷ 2 ∷ 3 ∷ 4 ∷ 5 ∷ 6 ∷ 7 ∷ 9 ∷ []) ≡ true
 unfolding reasons reason row isEmpty all
 reasons-given = refl
 
+-- 8, which no loss has, has none
 pub reason-none : reason 8 ≡ []
 unfolding reasons reason row
 reason-none = refl

@@ -1,7 +1,7 @@
 -- Which clause of demand 3's condition a message fails first, and for which entry: the clauses of `comesBack`
--- (crates/format/specs/Demand3.antt) in their order, numbered 1 to 7. No clause has the number 8, as header values come back whatever their
--- ends (document 02, T-03); 9 stays the number for nothing held, so that no other number moves. proofs/Lossless.antt has that none fails
--- exactly where the message comes back, and that 8 is never given. Assumes nothing.
+-- (crates/format/specs/Demand3.antt) in their order, numbered 1 to 7. No clause has the number 8, as the ends of header values are written
+-- so that they come back (document 02, T-03); 9 stays the number for nothing held, so that no other number moves. proofs/Lossless.antt has
+-- that none fails exactly where the message comes back, and that 8 is never given. Assumes nothing.
 use Prim.Native.Nat.{ℕ}
 use mathlib.Core.Path.{_≡_}
 use mathlib.Core.Bool.{Bool, true, false}

@@ -67,7 +67,7 @@ fn print_text(m: CpimMessage, head: &[u8], body: &[u8]) {
 
 // A text read.
 fn read(name: &[u8], text: &[u8]) {
-    let mut head = [0u8; 4096];
+    let mut head = [0u8; 16384];
     let mut body = [0u8; 64];
     let a = parse_cpim(text, &mut head, &mut body);
     print_numbers(name, a.number, a.carried);
@@ -94,7 +94,7 @@ fn limit(name: &[u8], before: &[u8], s: &[u8], n: usize, behind: &[u8]) {
     at = add(&mut text, at, before);
     at = add_times(&mut text, at, s, n);
     at = add(&mut text, at, behind);
-    let mut head = [0u8; 4096];
+    let mut head = [0u8; 16384];
     let mut body = [0u8; 64];
     let a = parse_cpim(first(&text, at), &mut head, &mut body);
     print_numbers(name, a.number, a.carried);

@@ -240,7 +240,7 @@ unfolding isLost
 lost-white g c h e = rw (h, e) refl
 
 -- a byte that white space which is no control character begins with
-pub lost-leads : (b : ℕ) (t : Bytes) → isLost (b ∷ t) ≡ true → lostLead b ≡ true
+lost-leads : (b : ℕ) (t : Bytes) → isLost (b ∷ t) ≡ true → lostLead b ≡ true
 unfolding lostLead
 lost-leads b t h =
     let w = lost-is-white (b ∷ t) h in

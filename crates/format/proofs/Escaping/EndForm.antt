@@ -32,7 +32,7 @@ unfolding isWhite
 lost-whole g l = and-left (wellFormed g) _ (lost-is-white g l)
 
 -- four digits are enough for each of the 25
-pub lost-code : (g : Bytes) → isLost g ≡ true → codePoint g < 65536
+lost-code : (g : Bytes) → isLost g ≡ true → codePoint g < 65536
 unfolding all
 lost-code g l = omega (arith, ltb-true (codePoint g) 65536 (white-all (λ n. ltb n 65536) refl g (lost-is-white g l)))
 

@@ -177,7 +177,7 @@ pub escape-char-read : (g s : Bytes) → wellFormed g ≡ true → unescape (esc
 escape-char-read g s w = char-read g s (written g w)
 
 -- characters that are written read back
-pub unescape-texts : (gs : List Bytes) → all wellFormed gs ≡ true → unescape (texts escapeChar gs) ≡ some (flat gs)
+unescape-texts : (gs : List Bytes) → all wellFormed gs ≡ true → unescape (texts escapeChar gs) ≡ some (flat gs)
 unfolding texts unescapeFrom
 unescape-texts [] w = refl
 unescape-texts (g ∷ gs) w =

@@ -1,6 +1,6 @@
 -- Document 02, T-03: a header value as it is written reads back, is UTF-8, has no control byte, at most six bytes for one, and no white space
--- at either end, so trimming takes nothing from it. It is the text of `escape` exactly where no end is white space but a control character.
--- Assumes nothing.
+-- at either end, so trimming takes nothing from it. It is the text of `escape` exactly where neither end is white space that is no
+-- control character. Assumes nothing.
 use Prim.Native.Nat.{_*_, _≤_, _<_}
 use mathlib.Core.Path.{_≡_, refl, sym, ap, _∙_}
 use mathlib.Core.Bool.{Bool, true, false, not}

@@ -1,5 +1,5 @@
 -- Reading one written line: the first colon is the one behind the name, since a name holds none; a space behind it is trimmed away,
--- and an escaped value comes back without the white space at its ends that is no control character. Assumes nothing.
+-- and nothing of the value as it is written, so the value comes back whatever its ends are. Assumes nothing.
 use Prim.Native.Nat.{ℕ}
 use mathlib.Core.Path.{_≡_, refl, sym, ap, _∙_}
 use mathlib.Core.Bool.{true, false, not}
@@ -52,7 +52,7 @@ pub trim-space : (s : Bytes) → trim (space ∷ s) ≡ trim s
 unfolding trimBy dropFront
 trim-space s = rw (chars-ascii space s (omega arith), space-white) refl
 
--- what is behind the name of a header's line: the parameters, a space, the escaped value
+-- what is behind the name of a header's line: the parameters, a space, the value as it is written
 abbrev pub behindColon : Header → Bytes
 behindColon h = texts paramText (h .params) ++ (ascii " " ++ valueText (h .value))
 

@@ -85,14 +85,14 @@ fn main() {
         exit(1);
     }
     lists.texts.say(100_000);
-    let [_, lost @ .., nothing] = lists.losses.map(grouped);
-    println!("Lost first, by clause 1 to 7: {}; nothing held: {nothing}.", lost.join(", "));
+    let [whole, lost @ .., free, nothing] = lists.losses;
+    println!("Lost first, by clause 1 to 7: {}; nothing held: {}.", lost.map(grouped).join(", "), grouped(nothing));
     println!("Scripts: {}.", grouped(lists.scripts));
     for (name, looked) in [("behind calls", &lists.looked), ("on damaged stores and records", &damaged.looked)] {
         println!("Lookups {name}: {}, {} places found.", grouped(looked.all()), grouped(looked.found));
     }
-    if lists.losses.contains(&0) {
-        eprintln!("a clause never failed first: {:?}", lists.losses);
+    if lost.contains(&0) || whole == 0 || nothing == 0 || free != 0 {
+        eprintln!("a clause never failed first, or 8 was given: {:?}", lists.losses);
         exit(1);
     }
     all_compared(BY_CALLS, |k| lists.functions[k]);

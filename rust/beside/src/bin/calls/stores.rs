@@ -15,19 +15,19 @@ use std::fmt::Debug;
 use std::process::exit;
 
 /// How often each answer was given: accepted (0), each number, 25 carrying 0 apart; how often each function was called;
-/// how many texts were written; by clause what was lost first (the last where nothing is held); how many scripts were run; and what was looked up.
+/// how many texts were written; by its number the clause that failed first, 0 where none did, 9 where nothing is held; how many scripts were run; and what was looked up.
 #[derive(Clone, Default)]
 pub struct Tally {
     pub answers: [u64; 27],
     pub nothing_held: u64,
     pub functions: [u64; BY_CALLS.len()],
     pub texts: Texts,
-    pub losses: [u64; 9],
+    pub losses: [u64; 10],
     pub scripts: u64,
     pub looked: Looked,
 }
 
-/// The number that stands for the clause where nothing is held.
+/// The number of a loss where nothing is held.
 const NOTHING: usize = 9;
 
 pub struct Stores {
@@ -189,7 +189,7 @@ impl Stores {
         let got = (raw::comes_back(self.record, head, body), raw::loss(self.record, head, body));
         let Some(m) = &self.message else {
             self.same("what comes back", &got, &(false, Loss { clause: NOTHING, entry: 0 }));
-            self.tally.losses[8] += 1;
+            self.tally.losses[NOTHING] += 1;
             return;
         };
         let due = written(m);

@@ -14,8 +14,8 @@ use std::fmt::Debug;
 use std::process::exit;
 
 const PARTS: usize = 64;
-const LISTS: usize = 30;
-const TEXTS: usize = 150;
+const LISTS: usize = 200;
+const TEXTS: usize = 1_000;
 const NAMES: [&str; 8] = ["From", "To", "Subject", "a", "h1", "é", "", "Content-ID"];
 
 #[derive(Default)]
@@ -137,6 +137,6 @@ fn main() {
     }
     let mut texts = Texts::default();
     all.iter().for_each(|b| texts.add(&b.texts));
-    texts.say(10_000);
+    texts.say(100_000);
     println!("The gateway's crate beside Rust: {} answers, no difference", grouped(answers));
 }
