@@ -2,8 +2,10 @@
 -- between, escaped as any text; and a last character that is written as `\u`, or nothing. Assumes nothing.
 use Prim.Native.Nat.{ℕ, _-_, _≤_}
 use mathlib.Core.Path.{_≡_}
+use mathlib.Core.Bool.{Bool, _&&_, _||_, not}
 use mathlib.Core.List.{[], _∷_, _++_}
-use lib.ListN.{length, take, drop}
+use lib.Dec.{ltb, eqb}
+use lib.ListN.{length, take, drop, getD}
 use Rattle.format.specs.Bytes.{Bytes}
 use Rattle.format.specs.Characters.{codePoint}
 use Rattle.format.specs.Escaping.{unicodeEscape, escape, valueText}
@@ -18,3 +20,11 @@ pub record Cuts (v : Bytes) (front end : ℕ) : Type 0 where
   pub ordered : front ≤ end
   pub inside : end ≤ length v
   pub parts : valueText v ≡ lostText (take front v) ++ (escape (take (end - front) (drop front v)) ++ lostText (drop end v))
+
+-- an ASCII character other than the space: at an end it is written as everywhere
+unfoldable pub asciiEnd : ℕ → Bool
+asciiEnd b = not (eqb b 0x20) && ltb b 0x80
+
+-- such are the first byte and the last, where there are any
+unfoldable pub asciiEnds : Bytes → Bool
+asciiEnds v = eqb (length v) 0 || (asciiEnd (getD v 0 0) && asciiEnd (getD v (length v - 1) 0))

@@ -1,55 +1,71 @@
 -- `escape::values::put_value_text` meets its contract: the three parts, one behind another. Assumes nothing.
 use Prim.Native.Nat.{ℕ, _-_}
-use mathlib.Core.Path.{_≡_, refl, sym, ap}
+use mathlib.Core.Path.{_≡_, refl, sym, ap, _∙_}
+use mathlib.Core.Logic.{⊎-elim}
 use mathlib.Core.List.{[], _++_, append-nil}
 use native.Mathlib.Omega.{arith}
 use lib.ListN.{length, take, drop, length-append}
-use lib.Seq.{length-take-le}
 use borrow.Author.Needs.{needs}
+use borrow.Author.Tests.{not-false}
 use Rattle.format.specs.Bytes.{Bytes}
 use Rattle.format.specs.Escaping.{escape, valueText}
 use Rattle.format.proofs.Typed.{the}
 use Rattle.octets.proofs.Written.{Written, written-none, written-length, written-more, written-all}
-use Rattle.escape.specs.Values.{lostText}
-use Rattle.escape.proofs.ValueParts.{cut-parts}
+use Rattle.escape.specs.Values.{lostText, Cuts}
+use Rattle.escape.proofs.ValueParts.{same-cuts, ascii-cuts}
 use Rattle.escape.proofs.values.put_value_text.Statement.{statement}
 use Rattle.escape.proofs.values.put_value_text.Tie as tie
 
-abbrev value : tie.After-cut → Bytes
+abbrev value : tie.Joined1 → Bytes
 value c = the tie.Start (search) .args .v .now
 
+-- where the ends are cut off, on either way
+joined : (c : tie.Joined1) → Cuts (value c) (c .if1 .front) (c .if1 .end)
+joined c =
+    ⊎-elim (λ w. same-cuts (value c) (w .2) (w .3) (w .1 .ensures))
+    (λ w. same-cuts (value c) (w .1) (w .2) (ascii-cuts (value c) (sym (the tie.After-ascii-ends (search) .ascii-ends .ensures) ∙ not-false _ (w .0 .left))))
+    (c .if1 .came)
+
 -- the parts as the code takes them
-abbrev front : tie.After-cut → Bytes
-front c = lostText (take (c .cut .result .front) (value c))
+abbrev front : tie.Joined1 → Bytes
+front c = lostText (take (c .if1 .front) (value c))
 
-abbrev inner : tie.After-cut → Bytes
-inner c = escape (take (c .cut .result .end - c .cut .result .front) (drop (c .cut .result .front) (value c)))
+abbrev inner : tie.Joined1 → Bytes
+inner c = escape (take (c .if1 .end - c .if1 .front) (drop (c .if1 .front) (value c)))
 
-abbrev back : tie.After-cut → Bytes
-back c = lostText (take (length (value c) - c .cut .result .end) (drop (c .cut .result .end) (value c)))
+abbrev back : tie.Joined1 → Bytes
+back c = lostText (drop (c .if1 .end) (value c))
 
-parts : (c : tie.After-cut) → valueText (value c) ≡ front c ++ (inner c ++ back c)
-parts c = cut-parts (c .cut .ensures)
-
-slice-aggregate-put-lost : tie.Need-slice-aggregate-put-lost
-slice-aggregate-put-lost c =
-    let e : tie.After-cut = search in
-    sym (length-take-le (e .cut .result .front) (value e) (omega (arith, e .cut .ensures .ordered, e .cut .ensures .inside)))
+parts : (c : tie.Joined1) → valueText (value c) ≡ front c ++ (inner c ++ back c)
+parts c = joined c .parts
 
 -- What is written, the slice being out then, where the next part goes to, and the parts that are left.
-abbrev Parts : tie.After-cut → Bytes → ℕ → Bytes → Type 0
+abbrev Parts : tie.Joined1 → Bytes → ℕ → Bytes → Type 0
 Parts c out to left = Written (valueText (value c)) (the tie.Start (search) .args .out .now) out (the tie.Start (search) .args .at) to left
 
-none : (c : tie.After-cut) → Parts c (the tie.Start (search) .args .out .now) (the tie.Start (search) .args .at) (valueText (value c))
+none : (c : tie.Joined1) → Parts c (the tie.Start (search) .args .out .now) (the tie.Start (search) .args .at) (valueText (value c))
 none c = written-none (valueText (value c)) (the tie.Start (search) .args .out .now) (the tie.Start (search) .args .at)
 
-put-lost-requires : tie.Need-put-lost-requires
-put-lost-requires c κs = omega (arith, ap length (parts (search)), length-append (front (search)) (inner (search) ++ back (search)))
+put-front-requires : tie.Need-put-front-requires
+put-front-requires c κs =
+    let e : tie.Joined1 = search in (
+      omega (arith, joined e .ordered, joined e .inside),
+      omega (arith, ap length (parts e), length-append (front e) (inner e ++ back e)),
+    )
 
-first : (c : tie.After-put-lost) → Parts (search) (c .put-lost .last .0) (c .put-lost .result) (inner (search) ++ back (search))
+first : (c : tie.After-put-front) → Parts (search) (c .put-front .last .0) (c .put-front .result) (inner (search) ++ back (search))
 first c =
-    written-more (none (search)) (the tie.Start (search) .pre) (front (search)) (inner (search) ++ back (search)) (c .put-lost .last .0) (c .put-lost .result)
-    (parts (search)) (c .put-lost .ensures .1) (c .put-lost .ensures .0)
+    written-more (none (search)) (the tie.Start (search) .pre) (front (search)) (inner (search) ++ back (search)) (c .put-front .last .0) (c .put-front .result)
+    (parts (search)) (c .put-front .ensures .1) (c .put-front .ensures .0)
+
+sub-escape-header-value : tie.Need-sub-escape-header-value
+sub-escape-header-value c = omega (arith, joined (search) .ordered)
+
+part-escape-header-value-start : tie.Need-part-escape-header-value-start
+part-escape-header-value-start c = omega (arith, joined (search) .ordered, joined (search) .inside)
+
+part-escape-header-value-end : tie.Need-part-escape-header-value-end
+part-escape-header-value-end c = omega (arith, joined (search) .ordered, joined (search) .inside)
 
 escape-header-value-requires : tie.Need-escape-header-value-requires
 escape-header-value-requires c κs =
@@ -60,13 +76,15 @@ second c =
     written-more (first (search)) (the tie.Start (search) .pre) (inner (search)) (back (search)) (c .escape-header-value .last .0) (c .escape-header-value .result)
     refl (c .escape-header-value .ensures .1) (c .escape-header-value .ensures .0)
 
-put-lost-requires-2 : tie.Need-put-lost-requires-2
-put-lost-requires-2 c κs = omega (arith, written-length (second (search)) (the tie.Start (search) .pre))
+put-back-requires : tie.Need-put-back-requires
+put-back-requires c κs =
+    let e : tie.Joined1 = search in
+    (omega (arith, joined e .inside), omega (arith, written-length (second (search)) (the tie.Start (search) .pre)))
 
-third : (c : tie.After-put-lost2) → Parts (search) (c .put-lost2 .last .0) (c .put-lost2 .result) []
+third : (c : tie.After-put-back) → Parts (search) (c .put-back .last .0) (c .put-back .result) []
 third c =
-    written-more (second (search)) (the tie.Start (search) .pre) (back (search)) [] (c .put-lost2 .last .0) (c .put-lost2 .result)
-    (sym (append-nil (back (search)))) (c .put-lost2 .ensures .1) (c .put-lost2 .ensures .0)
+    written-more (second (search)) (the tie.Start (search) .pre) (back (search)) [] (c .put-back .last .0) (c .put-back .result)
+    (sym (append-nil (back (search)))) (c .put-back .ensures .1) (c .put-back .ensures .0)
 
 same-length : tie.Need-same-length
 same-length c = written-length (third (search)) (the tie.Start (search) .pre) .0
@@ -77,5 +95,5 @@ returns c = written-all (third (search)) (the tie.Start (search) .pre) refl
 pub put-value-text-spec : {M : Type 1} → statement M
 put-value-text-spec =
     tie.close
-    (tie.spec (λ c κs. search needs) slice-aggregate-put-lost put-lost-requires (λ c. search needs) (λ c. search needs) (λ c. search needs)
-    escape-header-value-requires (λ c. search needs) (λ c. search needs) (λ c. search needs) put-lost-requires-2 same-length returns)
+    (tie.spec (λ c κs. search needs) (λ c κs. search needs) put-front-requires sub-escape-header-value part-escape-header-value-start
+    part-escape-header-value-end escape-header-value-requires put-back-requires same-length returns)
