@@ -1,5 +1,5 @@
 -- Where the ends of a header value are cut off: a first character that is lost, and a last one that is, looked for behind the first.
--- Assumes nothing.
+-- Where both ends are ASCII and no space, nothing is cut off (`ascii-cuts`). Assumes nothing.
 use Prim.Native.Nat.{ℕ, _+_, _-_, _≤_, _<_}
 use mathlib.Core.Path.{_≡_, refl, sym, ap, subst, _∙_}
 use mathlib.Core.Bool.{true, false, _&&_, not}
@@ -147,6 +147,7 @@ pub ascii-last : (v : Bytes) → (length v ≡ 0 → ⊥) → asciiEnd (getD v 0
 unfolding asciiEnds
 ascii-last v n h = rw (ne-eqb (length v) 0 n, h) refl
 
+-- an ASCII byte other than the space
 record Ascii (b : ℕ) : Type 0 where
   low : b < 128
   no-space : b ≡ 0x20 → ⊥

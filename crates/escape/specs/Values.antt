@@ -1,5 +1,6 @@
 -- A header value as it is written is three parts (document 02, T-03): a first character that is written as `\u`, or nothing; what is
--- between, escaped as any text; and a last character that is written as `\u`, or nothing. Assumes nothing.
+-- between, escaped as any text; and a last character that is written as `\u`, or nothing. A test of the
+-- first and the last byte tells of most values that both ends are nothing. Assumes nothing.
 use Prim.Native.Nat.{ℕ, _-_, _≤_}
 use mathlib.Core.Path.{_≡_}
 use mathlib.Core.Bool.{Bool, _&&_, _||_, not}
@@ -15,7 +16,7 @@ unfoldable pub lostText : Bytes → Bytes
 lostText [] = []
 lostText (b ∷ t) = unicodeEscape (codePoint (b ∷ t))
 
--- The ends of v are its first `front` bytes and those from the place `end` on.
+-- v is written in three parts: its first `front` bytes by lostText, those from there to the place `end` escaped, and the rest by lostText.
 pub record Cuts (v : Bytes) (front end : ℕ) : Type 0 where
   pub ordered : front ≤ end
   pub inside : end ≤ length v

@@ -1,5 +1,5 @@
-// Whether a header value is written as it is: no byte of it is an ASCII control, a quote, a backslash, or the lead byte
-// C2 of the two-byte controls. Most values are, and are then copied whole.
+// Whether a text has nothing to escape: no byte of it is an ASCII control, a quote, a backslash, or the lead byte C2 of the two-byte
+// controls. Most texts have nothing, and are then copied whole.
 
 use octets::finding::has_byte;
 ghost use mathlib.Core.Path.{_≡_};

@@ -1,4 +1,4 @@
-// How the next bytes of a header value are written (document 01, "Escaping"). No character is decoded: a byte below 128 is a
+// How the next bytes of a text are escaped (document 01, "Escaping"). No character is decoded: a byte below 128 is a
 // character of its own, the only others that are escaped are C2 80 to C2 9F, and every other byte is written as it is.
 
 ghost use mathlib.Core.Path.{_≡_};

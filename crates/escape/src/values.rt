@@ -59,12 +59,6 @@ fn put_back(out: &mut [u8], at: usize, v: &[u8], end: usize) -> usize
     put_lost(out, at, &v[end..])
 }
 
-// Where the ends are cut off: behind the first `front` bytes, and at the place `end`.
-struct Ends {
-    front: usize,
-    end: usize,
-}
-
 // An ASCII character other than the space.
 fn ascii_end(b: u8) -> bool
     ensures { λ r. ⌜ r ≡ asciiEnd b ⌝ }
@@ -75,7 +69,8 @@ fn ascii_end(b: u8) -> bool
     b < 0x80
 }
 
-// Both ends are such, as they mostly are: nothing is cut off then. It is asked before `cut`, which costs a call.
+// Both ends are such, or there is none: nothing is cut off then, as with most values. The functions below ask this themselves, and not in
+// `cut`, so that such a value does not cost a call of it.
 fn ascii_ends(v: &[u8]) -> bool
     ensures { λ r. ⌜ r ≡ asciiEnds (now (v .entry)) ⌝ }
 {
@@ -87,6 +82,12 @@ fn ascii_ends(v: &[u8]) -> bool
         return false;
     }
     ascii_end(v[n - 1])
+}
+
+// Where the ends are cut off: behind the first `front` bytes, and at the place `end`.
+struct Ends {
+    front: usize,
+    end: usize,
 }
 
 // The last character is looked for behind the first, so that a value of one is written once.

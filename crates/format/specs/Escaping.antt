@@ -35,13 +35,13 @@ abbrev pub shortOr : Option ℕ → Bytes → Bytes
 shortOr none g = longForm g
 shortOr (some c) g = backslash ∷ c ∷ []
 
--- one character as it is written, but at an end of a header value
+-- one character as it is written everywhere but at an end of a header value
 unfoldable pub escapeChar : Bytes → Bytes
 escapeChar [] = []
 escapeChar (b ∷ []) = shortOr (shortForm b) (b ∷ [])
 escapeChar (b ∷ c ∷ t) = longForm (b ∷ c ∷ t)
 
--- a text as it is written, the ends of a header value apart
+-- a text with every character written so
 unfoldable pub escape : Bytes → Bytes
 escape v = texts escapeChar (chars v)
 

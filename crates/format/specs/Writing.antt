@@ -14,7 +14,7 @@ use Rattle.format.specs.Calls.{enough}
 unfoldable pub paramText : Entry → Bytes
 paramText e = ascii ";" ++ (e .name ++ (ascii "=" ++ e .value))
 
--- a header's line: name, `:`, the parameters, a space, the value, escaped and its ends with it
+-- a header's line: name, `:`, the parameters, a space, the value as it is written
 unfoldable pub headerLine : Header → Bytes
 headerLine h = h .name ++ (ascii ":" ++ (texts paramText (h .params) ++ (ascii " " ++ valueText (h .value))))
 

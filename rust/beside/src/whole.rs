@@ -13,7 +13,7 @@ fn clear(s: &str) -> bool {
     s.trim() == s
 }
 
-/// A header value is not asked for: it comes back whatever its ends.
+/// No clause asks about the ends of header values: they are written so that they come back.
 pub fn loss(m: &CpimMessage) -> Loss {
     let headers: Vec<_> = m.headers().iter().flat_map(|(n, hs)| hs.iter().map(move |h| (n.as_str(), h))).collect();
     let contents: Vec<_> = m.content_headers().iter().map(|(n, v)| (n.as_str(), v.as_str())).collect();

@@ -25,7 +25,7 @@ returns c =
     nothing-put (part start) (start .args .at) (start .args .out .now) (omega (arith, part-length start, c .if1 .taken))
 
 some : (c : tie.Else1) → length (part (search)) ≡ 0 → ⊥
-some c z = absurd (omega (arith, part-length (search), the tie.Start (search) .pre .0, c .if1 .left (omega (arith, part-length (search), the tie.Start (search) .pre .0))))
+some c z = c .if1 .left (omega (arith, part-length (search), the tie.Start (search) .pre .0))
 
 put-lost-requires : tie.Need-put-lost-requires
 put-lost-requires c κs =
