@@ -1,7 +1,7 @@
 -- To unfold `computing` is to unfold every definition that an example computes with. Assumes nothing.
 use Rattle.format.specs.Bytes.{isEmpty, all, any, total, texts, same, before, begins, occurs, upTo, past, lower, sameLetters, splitFrom, join}
 use Rattle.format.specs.Characters.{trailIn, fits, wellFormed, matched, charsFrom, chars, isUtf8, codePoint, isScalar, encoding, isWhite, isControlCode, isControl, isAsciiControl, dropFront, dropBack, trimBy, replaced, isLost}
-use Rattle.format.specs.Escaping.{digit, unicodeEscape, shortForm, escapeChar, escape, endForm, lastForms, valueForms, valueText, digitValue, fourDigits, scalarEscape, longEscape, shortEscape, escapeAt, unescapeFrom}
+use Rattle.format.specs.Escaping.{digit, unicodeEscape, shortForm, escapeChar, escape, endForm, lastForms, valueForms, valueText, digitValue, firstDigit, fourDigits, scalarEscape, longEscape, apostropheEscape, shortEscape, escapeAt, unescapeFrom}
 use Rattle.format.specs.Refusals.{table, numbers, _>>=_, _>>_, refuseIf, atMost}
 use Rattle.format.specs.Validators.{reservedInName, reservedInParamName, reservedInParamValue, headerName, headerValue, contentValue, paramName, paramValue, contentType, utf8}
 use Rattle.format.specs.Message.{insert, without, only, put, needEntry, needAlone, needHeader, need}
@@ -12,5 +12,5 @@ use Rattle.format.specs.LookingUp.{nth, nthHeader, getHeaderValue, getHe
 use Rattle.format.specs.Showing.{digitsFrom, decimal, showNumbers, showMessage, show, showcpim}
 
 unfoldable pub computing : Unit {0}
-unfolding all any total texts same before begins occurs upTo past lower sameLetters splitFrom join trailIn fits wellFormed matched charsFrom chars isUtf8 codePoint isScalar encoding isWhite isControlCode isControl isAsciiControl dropFront dropBack trimBy replaced isLost digit unicodeEscape shortForm escapeChar escape endForm lastForms valueForms valueText digitValue fourDigits scalarEscape longEscape shortEscape escapeAt unescapeFrom table numbers _>>=_ _>>_ refuseIf atMost isEmpty reservedInName reservedInParamName reservedInParamValue headerName headerValue contentValue paramName paramValue contentType utf8 insert without only put needEntry needAlone needHeader need room enough bodyLength headerCount paramCount contentCount ifRoom setBody append addContentHeader setParam paramText headerLine contentLine typeLine write each separator sections lineEnd lines readParam checkedValue readValue readParts readHeader readType readNamed readContentLine saysCpim bodyOf readLine readHeaderLine partsOf textParts readNameAndValue readWith new setHeader addHeader addHeaderObj aloneOf addParam ifRoomAlone newHeader withParam nsValue arguments change lends headerHeld answer toText nth nthHeader getHeaderValue getHeader getParam getType getBody getContent aloneValue aloneParam bodyAsStr bodyLengthOf writes countHeaders countParams countContents closed address bodyOfText inText bufferFor findBody bufferAfter bodyPart digitsFrom decimal showNumbers showMessage show showcpim
+unfolding all any total texts same before begins occurs upTo past lower sameLetters splitFrom join trailIn fits wellFormed matched charsFrom chars isUtf8 codePoint isScalar encoding isWhite isControlCode isControl isAsciiControl dropFront dropBack trimBy replaced isLost digit unicodeEscape shortForm escapeChar escape endForm lastForms valueForms valueText digitValue firstDigit fourDigits scalarEscape longEscape apostropheEscape shortEscape escapeAt unescapeFrom table numbers _>>=_ _>>_ refuseIf atMost isEmpty reservedInName reservedInParamName reservedInParamValue headerName headerValue contentValue paramName paramValue contentType utf8 insert without only put needEntry needAlone needHeader need room enough bodyLength headerCount paramCount contentCount ifRoom setBody append addContentHeader setParam paramText headerLine contentLine typeLine write each separator sections lineEnd lines readParam checkedValue readValue readParts readHeader readType readNamed readContentLine saysCpim bodyOf readLine readHeaderLine partsOf textParts readNameAndValue readWith new setHeader addHeader addHeaderObj aloneOf addParam ifRoomAlone newHeader withParam nsValue arguments change lends headerHeld answer toText nth nthHeader getHeaderValue getHeader getParam getType getBody getContent aloneValue aloneParam bodyAsStr bodyLengthOf writes countHeaders countParams countContents closed address bodyOfText inText bufferFor findBody bufferAfter bodyPart digitsFrom decimal showNumbers showMessage show showcpim
 computing = tt

@@ -27,8 +27,7 @@ use Rattle.format.proofs.Messages.Unique.{holds-unique}
 use Rattle.format.proofs.Messages.Valid.{new-valid}
 use Rattle.format.proofs.Messages.Runs.{run-held, runs-on}
 use Rattle.format.proofs.Texts.ReadValid.{read-valid, read-room}
-use Rattle.format.proofs.Texts.RoundTrip.{reads-back}
-use Rattle.format.proofs.Texts.OnlyIf.{back-only}
+use Rattle.format.proofs.Texts.SourceRoundTrip.{reads-back, back-only}
 
 -- What an accepted `new` and an accepted reading leave holds their message.
 

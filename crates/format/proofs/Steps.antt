@@ -49,6 +49,17 @@ pub bind-passed : {A B : Type 0} (x : Out A) (f : A → Out B) (a : A) → x ≡
 unfolding _>>=_
 bind-passed x f a h = rw h refl
 
+-- a check, and a step, before two others
+pub then-on : {A B : Type 0} (x : Check) (y : Out A) (f : A → Out B) → _>>_ x (_>>=_ y f) ≡ _>>=_ (_>>_ x y) f
+unfolding _>>_ _>>=_
+then-on (accepted u) y f = refl
+then-on (refused r) y f = refl
+
+pub bind-on : {A B C : Type 0} (x : Out A) (f : A → Out B) (g : B → Out C) → _>>=_ x (λ a. _>>=_ (f a) g) ≡ _>>=_ (_>>=_ x f) g
+unfolding _>>=_
+bind-on (accepted a) f g = refl
+bind-on (refused r) f g = refl
+
 -- a check in front of what is handed on
 pub then-bind : {A B : Type 0} (x : Check) (a : A) (f : A → Out B) → _>>=_ (_>>_ x (accepted a)) f ≡ _>>_ x (f a)
 unfolding _>>=_ _>>_

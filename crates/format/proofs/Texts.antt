@@ -8,3 +8,4 @@ pub mod Measure
 pub mod ReadOver
 pub mod Headless
 pub mod OnlyIf
+pub mod SourceRoundTrip

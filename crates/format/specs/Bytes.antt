@@ -61,6 +61,9 @@ space = 32
 abbrev pub quote : ℕ
 quote = 34
 
+abbrev pub apostrophe : ℕ
+apostrophe = 39
+
 abbrev pub plus : ℕ
 plus = 43
 

@@ -1,12 +1,15 @@
--- Document 01, "Escaping" (RFC 3862 section 2.3), as the source has it, and document 02, T-03: how the ends of a header value are written.
--- Stricter than the RFC: \' is refused. Laxer: \u takes a plus sign and three digits. Assumes nothing.
+-- Document 01, "Escaping" (RFC 3862 section 2.3), and document 02, T-03: how the ends of a header value are written. Escapes are read in
+-- two manners, the source's and the RFC's. The source is stricter: \' is refused. And laxer: \u takes a plus sign and three digits.
+-- Assumes nothing.
 use Prim.Native.Nat.{ℕ, zero, suc, _+_, _-_, _*_, _/_, _%_}
 use mathlib.Core.Bool.{_&&_}
 use mathlib.Core.List.{List, [], _∷_, _++_}
 use mathlib.Core.Option.{Option, none, some}
 use lib.Dec.{leb, ltb, eqb}
-use Rattle.format.specs.Bytes.{Bytes, if_then_else_, texts, backslash, quote, plus}
+use Rattle.format.specs.Bytes.{Bytes, if_then_else_, texts, backslash, quote, apostrophe, plus}
 use Rattle.format.specs.Characters.{chars, isControl, codePoint, isScalar, encoding, isLost}
+use Rattle.format.specs.declared.Manner.{Manner}
+use Rattle.format.specs.declared.Manner.the-variants.{Source, Rfc}
 
 -- a lower-case hexadecimal digit: 0 to 9, a to f
 unfoldable pub digit : ℕ → ℕ
@@ -77,10 +80,14 @@ shifted none d = none
 shifted (some n) none = none
 shifted (some n) (some d) = some (n * 16 + d)
 
--- the number after `\u`: four digits, or a plus and three digits
-unfoldable pub fourDigits : ℕ → ℕ → ℕ → ℕ → Option ℕ
-fourDigits a b c d =
-    shifted (shifted (shifted (if eqb a plus then some 0 else digitValue a) (digitValue b)) (digitValue c)) (digitValue d)
+-- the first of four digits: the source takes a plus for 0
+unfoldable pub firstDigit : Manner → ℕ → Option ℕ
+firstDigit Source c = if eqb c plus then some 0 else digitValue c
+firstDigit Rfc c = digitValue c
+
+-- the number after `\u`
+unfoldable pub fourDigits : Manner → ℕ → ℕ → ℕ → ℕ → Option ℕ
+fourDigits r a b c d = shifted (shifted (shifted (firstDigit r a) (digitValue b)) (digitValue c)) (digitValue d)
 
 -- What an escape stands for, and how many bytes behind the backslash it takes.
 pub record Escape : Type 0 where
@@ -93,30 +100,35 @@ scalarEscape none = none
 scalarEscape (some n) = if isScalar n then some (record { stands = encoding n; takes = 5 }) else none
 
 -- `\u`: the four bytes behind it
-unfoldable pub longEscape : Bytes → Option Escape
-longEscape [] = none
-longEscape (a ∷ []) = none
-longEscape (a ∷ b ∷ []) = none
-longEscape (a ∷ b ∷ c ∷ []) = none
-longEscape (a ∷ b ∷ c ∷ d ∷ t) = scalarEscape (fourDigits a b c d)
+unfoldable pub longEscape : Manner → Bytes → Option Escape
+longEscape r [] = none
+longEscape r (a ∷ []) = none
+longEscape r (a ∷ b ∷ []) = none
+longEscape r (a ∷ b ∷ c ∷ []) = none
+longEscape r (a ∷ b ∷ c ∷ d ∷ t) = scalarEscape (fourDigits r a b c d)
 
 abbrev pub oneByte : ℕ → Option Escape
 oneByte n = some (record { stands = n ∷ []; takes = 1 })
 
+-- \' is an escape of the RFC alone
+unfoldable pub apostropheEscape : Manner → ℕ → Option Escape
+apostropheEscape Source c = none
+apostropheEscape Rfc c = if eqb c apostrophe then oneByte apostrophe else none
+
 -- the short forms read
-unfoldable pub shortEscape : ℕ → Option Escape
-shortEscape c =
+unfoldable pub shortEscape : Manner → ℕ → Option Escape
+shortEscape r c =
     if eqb c backslash then oneByte backslash
     else if eqb c quote then oneByte quote
     else if eqb c 98 then oneByte 8
     else if eqb c 116 then oneByte 9
     else if eqb c 110 then oneByte 10
-    else if eqb c 114 then oneByte 13 else none
+    else if eqb c 114 then oneByte 13 else apostropheEscape r c
 
 -- the escape that the bytes behind a backslash begin with
-unfoldable pub escapeAt : Bytes → Option Escape
-escapeAt [] = none
-escapeAt (c ∷ s) = if eqb c 117 then longEscape s else shortEscape c
+unfoldable pub escapeAt : Manner → Bytes → Option Escape
+escapeAt r [] = none
+escapeAt r (c ∷ s) = if eqb c 117 then longEscape r s else shortEscape r c
 
 -- how many bytes are passed over
 abbrev pub takesOf : Option Escape → ℕ
@@ -134,11 +146,14 @@ escaped (some e) t = inFront (e .stands) t
 
 -- Read; none where something else stands after a backslash. (k bytes of an escape just read are still to be passed over:
 -- a device of the recursion.)
-unfoldable pub unescapeFrom : ℕ → Bytes → Option Bytes
-unescapeFrom k [] = some []
-unescapeFrom zero (b ∷ s) =
-    if eqb b backslash then escaped (escapeAt s) (unescapeFrom (takesOf (escapeAt s)) s) else inFront (b ∷ []) (unescapeFrom zero s)
-unescapeFrom (suc k) (b ∷ s) = unescapeFrom k s
+unfoldable pub unescapeFrom : Manner → ℕ → Bytes → Option Bytes
+unescapeFrom r k [] = some []
+unescapeFrom r zero (b ∷ s) =
+    if eqb b backslash then escaped (escapeAt r s) (unescapeFrom r (takesOf (escapeAt r s)) s) else inFront (b ∷ []) (unescapeFrom r zero s)
+unescapeFrom r (suc k) (b ∷ s) = unescapeFrom r k s
+
+abbrev pub unescapeBy : Manner → Bytes → Option Bytes
+unescapeBy r s = unescapeFrom r 0 s
 
 abbrev pub unescape : Bytes → Option Bytes
-unescape s = unescapeFrom 0 s
+unescape s = unescapeBy Source s

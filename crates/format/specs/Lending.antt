@@ -6,10 +6,10 @@ use mathlib.Core.Option.{Option, none, some}
 use lib.ListN.{length, take, replicate}
 use Rattle.format.specs.Bytes.{Bytes, over}
 use Rattle.format.specs.Refusals.{Out, accepted, refused, numbers}
-use Rattle.format.specs.Message.{LoneHeader, Message, need}
+use Rattle.format.specs.Message.{LoneHeader, Header, Message, need}
 use Rattle.format.specs.Calls.{Stores, Call, add-header-obj, answer, new, newHeader, withParam}
 use Rattle.format.specs.Writing.{toText, writes}
-use Rattle.format.specs.Reading.{read}
+use Rattle.format.specs.Reading.{readHeader, readWith}
 use Rattle.format.specs.Layout.{Lent, Held, HeldAlone, layout, recordOf, layoutAlone, headerOf, emptyMessage, emptyHeader}
 use Rattle.format.specs.declared.Numbers.{Numbers}
 use Rattle.format.specs.declared.CpimMessage.{CpimMessage}
@@ -83,14 +83,17 @@ pub record ReadInto (l k : Lent) (m : Message) : Type 0 where
   pub kept : length (k .head) ≡ length (l .head)
   pub stored : k .body ≡ overLent (m .body) (l .body)
 
--- `parse_cpim`: refused, it hands back an empty record and writes zeros over both stores.
+-- A reading, by either reader of a header line: refused, it hands back an empty record and writes zeros over both stores.
 abbrev pub ReadLeaves : Lent → Lent → Out Message → Type 0
 ReadLeaves l k (accepted m) = ReadInto l k m
 ReadLeaves l k (refused r) = k ≡ record { message = emptyMessage; head = zeroed (l .head); body = zeroedLent (l .body) }
 
-pub record Parsed (t : Bytes) (l k : Lent) (n : Numbers) : Type 0 where
-  pub answered : n ≡ numbers (read t (lengths l))
-  pub left : ReadLeaves l k (read t (lengths l))
+pub record ParsedWith (reader : Bytes → Out Header) (t : Bytes) (l k : Lent) (n : Numbers) : Type 0 where
+  pub answered : n ≡ numbers (readWith reader t (lengths l))
+  pub left : ReadLeaves l k (readWith reader t (lengths l))
+
+abbrev pub Parsed : Bytes → Lent → Lent → Numbers → Type 0
+Parsed t l k n = ParsedWith readHeader t l k n
 
 -- `to_string`
 pub record Wrote (l : Lent) (out written : Bytes) (n : Numbers) : Type 0 where

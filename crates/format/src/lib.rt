@@ -44,3 +44,9 @@ pub struct HeaderAnswer {
     pub carried: u64,
     pub header: CpimHeader,
 }
+
+// Whose escapes a header value is read by: the source's, or RFC 3862's.
+pub enum Manner {
+    Source,
+    Rfc,
+}

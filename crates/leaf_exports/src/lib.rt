@@ -1,4 +1,5 @@
 // The leaves as C functions, for the comparison with Rust and for the benchmarks. Each has the contract of what it wraps.
+use format::Manner;
 ghost use mathlib.Core.Path.{_≡_};
 ghost use mathlib.Core.List.{map};
 ghost use mathlib.Core.Bool.{true};
@@ -101,7 +102,7 @@ pub extern "C" fn leaves_put_value_text(out: &mut [u8], s: &[u8]) -> usize
 pub extern "C" fn leaves_reads(s: &[u8]) -> bool
     ensures { λ r. ⌜ r ≡ (measured (unescape (now (s .entry)))) .ok ⌝ }
 {
-    let m = unescape::unescaped_len(s);
+    let m = unescape::unescaped_len(Manner::Source, s);
     m.ok
 }
 
@@ -109,7 +110,7 @@ pub extern "C" fn leaves_reads(s: &[u8]) -> bool
 pub extern "C" fn leaves_unescaped_len(s: &[u8]) -> usize
     ensures { λ r. ⌜ r ≡ (measured (unescape (now (s .entry)))) .len ⌝ }
 {
-    let m = unescape::unescaped_len(s);
+    let m = unescape::unescaped_len(Manner::Source, s);
     m.len
 }
 
@@ -120,7 +121,7 @@ pub extern "C" fn leaves_unescape(out: &mut [u8], s: &[u8]) -> usize
     ensures len { λ r. ⌜ r ≡ 0 + length (valueOf (unescape (now (s .entry)))) ⌝ }
     ensures bytes { λ _. ⌜ now (out .exit) ≡ pasted 0 (valueOf (unescape (now (s .entry)))) (now (out .entry)) ⌝ }
 {
-    unescape::unescape_header_value(out, 0, s)
+    unescape::unescape_header_value(Manner::Source, out, 0, s)
 }
 
 #[no_mangle]

@@ -7,9 +7,9 @@ use native.Mathlib.Omega.{arith}
 use lib.ListN.{length, take, drop}
 use Rattle.format.specs.Bytes.{Bytes, semicolon, upTo, pieces, split, texts}
 use Rattle.format.specs.Characters.{isUtf8}
-use Rattle.format.specs.Refusals.{accepted, numbers}
+use Rattle.format.specs.Refusals.{Out, accepted, numbers}
 use Rattle.format.specs.Message.{Entry}
-use Rattle.format.specs.Reading.{each, readParam}
+use Rattle.format.specs.Reading.{each}
 use Rattle.format.specs.declared.Numbers.{Numbers}
 use Rattle.format.specs.declared.CpimHeader.{CpimHeader}
 use Rattle.format.proofs.Lists.{rest-is}
@@ -42,25 +42,25 @@ none-gathered room = record { many = refl; bytes = refl; few = omega arith; from
 -- stop is the place of the first `;` left of the colon
 module _ (left : Bytes) (stop : ℕ) (found : stop ≡ length (upTo semicolon left)) where
   -- there is none
-  pub none-read : (room : Bytes) → length left ≤ stop
-      → Yields (record { number = 0; carried = 0 }) (each readParam ((split (semicolon ∷ []) left) .rest) []) (Gathered (record { valuelen = 0; params = 0; size = 16 }) room)
+  pub none-read : (step : Bytes → List Entry → Out (List Entry)) (room : Bytes) → length left ≤ stop
+      → Yields (record { number = 0; carried = 0 }) (each step ((split (semicolon ∷ []) left) .rest) []) (Gathered (record { valuelen = 0; params = 0; size = 16 }) room)
   unfolding each numbers
-  none-read room h =
+  none-read step room h =
       yields-as _ (accepted []) (Gathered (record { valuelen = 0; params = 0; size = 16 }) room)
       (record { answered = refl; there = λ ps e. subst (Gathered (record { valuelen = 0; params = 0; size = 16 }) room) (accepted-same [] ps e) (none-gathered room) })
-      (each readParam ((split (semicolon ∷ []) left) .rest) [])
-      (ap (λ (ss : List Bytes). each readParam ss []) (others-none left stop found h))
+      (each step ((split (semicolon ∷ []) left) .rest) [])
+      (ap (λ (ss : List Bytes). each step ss []) (others-none left stop found h))
 
   -- the bytes behind it have the parts
   pub behind-utf8 : isUtf8 left ≡ true → isUtf8 (take (length left - (stop + 1)) (drop (stop + 1) left)) ≡ true
   behind-utf8 u = ap isUtf8 (rest-is left (stop + 1) ∙ sym (found-past semicolon left stop found)) ∙ past-utf8 semicolon left (omega arith) u
 
-  pub behind-read : (n : Numbers) (h : CpimHeader) (room : Bytes) → stop < length left
-      → Yields n (each readParam (pieces (split (semicolon ∷ []) (take (length left - (stop + 1)) (drop (stop + 1) left)))) []) (Standing h room)
-      → Yields n (each readParam ((split (semicolon ∷ []) left) .rest) []) (Gathered h room)
-  behind-read n h room s y =
+  pub behind-read : (step : Bytes → List Entry → Out (List Entry)) (n : Numbers) (h : CpimHeader) (room : Bytes) → stop < length left
+      → Yields n (each step (pieces (split (semicolon ∷ []) (take (length left - (stop + 1)) (drop (stop + 1) left)))) []) (Standing h room)
+      → Yields n (each step ((split (semicolon ∷ []) left) .rest) []) (Gathered h room)
+  behind-read step n h room s y =
       yields-as n _ (Gathered h room)
       (yields-more n _ (Standing h room) y (Gathered h room) (standing-gathered h room))
-      (each readParam ((split (semicolon ∷ []) left) .rest) [])
-      (ap (λ (ss : List Bytes). each readParam ss [])
+      (each step ((split (semicolon ∷ []) left) .rest) [])
+      (ap (λ (ss : List Bytes). each step ss [])
       (others-more left stop found s ∙ ap (λ (t : Bytes). pieces (split (semicolon ∷ []) t)) (sym (rest-is left (stop + 1)))))

@@ -12,7 +12,7 @@ use Rattle.format.specs.Characters.{isUtf8}
 use Rattle.format.specs.Refusals.{Out, _>>=_}
 use Rattle.format.specs.Message.{Entry, needAlone}
 use Rattle.format.specs.Layout.{layoutAlone, headerOf}
-use Rattle.format.specs.Reading.{each, readParam}
+use Rattle.format.specs.Reading.{each}
 use Rattle.format.specs.declared.Numbers.{Numbers}
 use Rattle.format.proofs.Steps.{bind-passed}
 use Rattle.format.proofs.Splitting.SplitUtf8.{upTo-utf8, past-utf8}
@@ -54,43 +54,43 @@ module _ (parts : Bytes) (at k : ℕ) (found : k ≡ length (upTo semicolon (dro
   rest-utf8 u = ap isUtf8 (sym behind) ∙ ap isUtf8 (sym (found-past semicolon (drop at parts) k found)) ∙ past-utf8 semicolon (drop at parts) (omega arith) u
 
   -- ps have been read from the parts before it
-  module _ (ps : List Entry) (part : Bytes) (so : each readParam (pieces (split (semicolon ∷ []) parts)) [] ≡ each readParam (pieces (split (semicolon ∷ []) (drop at parts))) ps)
-      (next : part ≡ take k (drop at parts)) (n : Numbers) (P : List Entry → Type 0) (y : Yields n (readParam part ps) P) where
+  module _ (step : Bytes → List Entry → Out (List Entry)) (ps : List Entry) (part : Bytes) (so : each step (pieces (split (semicolon ∷ []) parts)) [] ≡ each step (pieces (split (semicolon ∷ []) (drop at parts))) ps)
+      (next : part ≡ take k (drop at parts)) (n : Numbers) (P : List Entry → Type 0) (y : Yields n (step part ps) P) where
     whole : Out (List Entry)
-    whole = each readParam (pieces (split (semicolon ∷ []) parts)) []
+    whole = each step (pieces (split (semicolon ∷ []) parts)) []
 
-    turn : whole ≡ _>>=_ (readParam part ps) (each readParam ((split (semicolon ∷ []) (drop at parts)) .rest))
+    turn : whole ≡ _>>=_ (step part ps) (each step ((split (semicolon ∷ []) (drop at parts)) .rest))
     unfolding whole each
     turn =
         so
-        ∙ ap (λ (p : Bytes). _>>=_ (readParam p ps) (each readParam ((split (semicolon ∷ []) (drop at parts)) .rest)))
+        ∙ ap (λ (p : Bytes). _>>=_ (step p ps) (each step ((split (semicolon ∷ []) (drop at parts)) .rest)))
         (first-is (drop at parts) k found ∙ sym next)
 
     -- it is refused
-    pub refused-there : (n .number ≡ 0 → ⊥) → Yields n (each readParam (pieces (split (semicolon ∷ []) parts)) []) P
+    pub refused-there : (n .number ≡ 0 → ⊥) → Yields n (each step (pieces (split (semicolon ∷ []) parts)) []) P
     unfolding whole
     refused-there z =
-        yields-as n _ P (ended n (readParam part ps) P y (each readParam ((split (semicolon ∷ []) (drop at parts)) .rest)) P z) whole turn
+        yields-as n _ P (ended n (step part ps) P y (each step ((split (semicolon ∷ []) (drop at parts)) .rest)) P z) whole turn
 
     -- it is the last
-    pub ends-there : length parts ≤ at + k → Yields n (each readParam (pieces (split (semicolon ∷ []) parts)) []) P
+    pub ends-there : length parts ≤ at + k → Yields n (each step (pieces (split (semicolon ∷ []) parts)) []) P
     unfolding whole each
     ends-there h =
         let e = others-none (drop at parts) k found (omega (arith, length-drop at parts)) in
-        yields-as n _ P (last n (readParam part ps) P y) whole
-        (turn ∙ ap (λ (ss : List Bytes). _>>=_ (readParam part ps) (each readParam ss)) e)
+        yields-as n _ P (last n (step part ps) P y) whole
+        (turn ∙ ap (λ (ss : List Bytes). _>>=_ (step part ps) (each step ss)) e)
 
     -- there are more
     pub goes-on : at + k < length parts → n .number ≡ 0
         → (qs : List Entry) × P qs
-        × (each readParam (pieces (split (semicolon ∷ []) parts)) [] ≡ each readParam (pieces (split (semicolon ∷ []) (drop (at + k + 1) parts))) qs)
+        × (each step (pieces (split (semicolon ∷ []) parts)) [] ≡ each step (pieces (split (semicolon ∷ []) (drop (at + k + 1) parts))) qs)
     unfolding whole
     goes-on h z =
-        let g = given n (readParam part ps) P y z in
+        let g = given n (step part ps) P y z in
         let e = others-more (drop at parts) k found (omega (arith, length-drop at parts)) ∙ ap (λ (s : Bytes). pieces (split (semicolon ∷ []) s)) behind in (
           g .0,
           g .2,
           turn
-              ∙ ap (λ (ss : List Bytes). _>>=_ (readParam part ps) (each readParam ss)) e
-              ∙ bind-passed (readParam part ps) (each readParam (pieces (split (semicolon ∷ []) (drop (at + k + 1) parts)))) (g .0) (g .1),
+              ∙ ap (λ (ss : List Bytes). _>>=_ (step part ps) (each step ss)) e
+              ∙ bind-passed (step part ps) (each step (pieces (split (semicolon ∷ []) (drop (at + k + 1) parts)))) (g .0) (g .1),
         )

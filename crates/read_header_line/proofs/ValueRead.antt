@@ -8,7 +8,7 @@ use native.Mathlib.Omega.{arith}
 use lib.ListN.{length}
 use lib.Seq.{take-all}
 use Rattle.format.specs.Bytes.{Bytes, backslash, upTo}
-use Rattle.format.specs.Escaping.{unescape}
+use Rattle.format.specs.Escaping.{unescapeBy}
 use Rattle.format.specs.Limits.{maxValue}
 use Rattle.format.specs.Refusals.{refused, badEscape, valueTooLong, numbers, table, _carrying_, _>>_, _>>=_}
 use Rattle.format.specs.Validators.{headerValue}
@@ -20,6 +20,7 @@ use Rattle.format.specs.Reading.{checkedValue}
 use Rattle.format.specs.declared.Numbers.{Numbers}
 use Rattle.format.specs.declared.CpimMessage.{CpimMessage}
 use Rattle.format.specs.declared.Answer.{Answer}
+use Rattle.format.specs.declared.Manner.{Manner}
 use Rattle.format.proofs.Steps.{then-bind, atMost-passed}
 use Rattle.format.proofs.Answers.{carried}
 use Rattle.format.proofs.Escaping.Unescape.{behind-nil}
@@ -31,9 +32,9 @@ use Rattle.message_rules.proofs.MessageChecks.{does-passed, does-over, handed-o
 use Rattle.read_header_line.specs.HeaderLine.{appendRead, Tail}
 
 -- a text without a backslash reads as it is
-pub plain-reads : (s : Bytes) (k : ℕ) → k ≡ length (upTo backslash s) → length s ≤ k → unescape s ≡ some s
-plain-reads s k found h =
-    read-end s 0 k found [] (sym (behind-nil (unescape s))) (omega arith) ∙ ap some (take-all k s h)
+pub plain-reads : (r : Manner) (s : Bytes) (k : ℕ) → k ≡ length (upTo backslash s) → length s ≤ k → unescapeBy r s ≡ some s
+plain-reads r s k found h =
+    read-end r s 0 k found [] (sym (behind-nil (unescapeBy r s))) (omega arith) ∙ ap some (take-all k s h)
 
 -- What was measured of a text.
 module _ (o : Option Bytes) (u : Unescaped) (e : u ≡ measured o) where

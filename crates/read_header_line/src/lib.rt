@@ -2,37 +2,33 @@
 // its parameters into room that is lent for them; then the value is read and the header appended.
 
 mod params;
+mod values;
 
 use crate::params::read_params;
+use crate::values::append_read;
 use format::Answer;
 use format::CpimHeader;
 use format::CpimMessage;
 use format::HeaderAnswer;
-use message_rules::append_held;
-use message_rules::refused;
+use format::Manner;
 use octets::finding::find_byte;
-use store_splice::Notation;
-use unescape::unescaped_len;
 use unicode::trimming::trim;
-use validate::MAX_HEADER_VALUE_LENGTH;
-use validate::validate_cpim_header_value;
 use validate::validate_header_name;
 ghost use mathlib.Core.Path.{_≡_};
 ghost use mathlib.Core.Bool.{true};
-ghost use mathlib.Core.List.{List, [], _∷_};
-ghost use Prim.Native.Nat.{_≤_, _<_};
+ghost use mathlib.Core.List.{[], _∷_};
+ghost use Prim.Native.Nat.{_≤_};
 ghost use lib.ListN.{length};
 ghost use Rattle.format.specs.Bytes.{semicolon, upTo, split};
 ghost use Rattle.format.specs.Characters.{isUtf8, trim};
-ghost use Rattle.format.specs.Escaping.{unescape};
-ghost use Rattle.format.specs.Message.{Entry, Message};
+ghost use Rattle.format.specs.Message.{Message};
 ghost use Rattle.format.specs.Layout.{Holds};
 ghost use Rattle.format.specs.Lending.{headLent, lengths, numbersOf, headerNumbers};
-ghost use Rattle.format.specs.Reading.{checkedValue, readHeader, readLine};
+ghost use Rattle.format.specs.Reading.{readHeader, readLine};
 ghost use Rattle.store_check.specs.Holding.{messageHolds};
 ghost use Rattle.message_edit.specs.Edits.{Does};
 ghost use Rattle.read_header_line.specs.Gathered.{Yields, Gathered};
-ghost use Rattle.read_header_line.specs.HeaderLine.{readLeft, appendRead, Tail};
+ghost use Rattle.read_header_line.specs.HeaderLine.{readLeft};
 
 // What stands left of the colon: its name is checked, then its parameters are read into the room. The name is that of the first
 // stop bytes.
@@ -56,70 +52,6 @@ fn scan_left(left: &[u8], stop: usize, name: &[u8], room: &mut [u8]) -> HeaderAn
         };
     }
     read_params(left, stop, room)
-}
-
-// A header whose value has escapes, unescaped straight into the store: 5, 10, 20, 25.
-fn append_escaped(
-    m: CpimMessage,
-    head: &mut [u8],
-    name: &[u8],
-    text: &[u8],
-    params: usize,
-    tail: &[u8],
-) -> Answer
-    requires held { ⌜ messageHolds m (now head) ≡ true ⌝ }
-    requires bytes { ⌜ (length (now name) < 256) × (params < 256) × (length (now tail) < 65536) ⌝ }
-    ensures { λ r. ⌜ ((k : Message) (ps : List Entry) → Holds (headLent m (now (head .entry))) k → Tail ps params (now (tail .entry)) → Does (headLent m (now (head .entry))) (headLent (r .message) (now (head .exit))) (numbersOf r) (appendRead (now (name .entry)) (checkedValue (unescape (now (text .entry)))) ps (lengths (headLent m (now (head .entry)))) k)) ⌝ }
-{
-    let read = unescaped_len(text);
-    if !read.ok {
-        return Answer {
-            number: 5,
-            carried: 0,
-            message: m,
-        };
-    }
-    let n = read.len;
-    if MAX_HEADER_VALUE_LENGTH < n {
-        return Answer {
-            number: 10,
-            carried: n as u64,
-            message: m,
-        };
-    }
-    append_held(m, head, name, text, Notation::Escaped, n, params, tail)
-}
-
-// A header of a name and parameters, its value read from a text: without a backslash it is the text itself.
-fn append_read(
-    m: CpimMessage,
-    head: &mut [u8],
-    name: &[u8],
-    text: &[u8],
-    params: usize,
-    tail: &[u8],
-) -> Answer
-    requires held { ⌜ messageHolds m (now head) ≡ true ⌝ }
-    requires bytes { ⌜ (length (now name) < 256) × (params < 256) × (length (now tail) < 65536) ⌝ }
-    ensures { λ r. ⌜ ((k : Message) (ps : List Entry) → Holds (headLent m (now (head .entry))) k → Tail ps params (now (tail .entry)) → Does (headLent m (now (head .entry))) (headLent (r .message) (now (head .exit))) (numbersOf r) (appendRead (now (name .entry)) (checkedValue (unescape (now (text .entry)))) ps (lengths (headLent m (now (head .entry)))) k)) ⌝ }
-{
-    if find_byte(text, b'\\') < text.len() {
-        return append_escaped(m, head, name, text, params, tail);
-    }
-    let v = validate_cpim_header_value(text);
-    if v.number != 0 {
-        return refused(v, m);
-    }
-    append_held(
-        m,
-        head,
-        name,
-        text,
-        Notation::Plain,
-        text.len(),
-        params,
-        tail,
-    )
 }
 
 // A header line: first colon or 4; left of it, split at `;`, the name, trimmed and checked, and the parameters; right of it the value,
@@ -153,6 +85,7 @@ pub fn read_header_line(line: &[u8], m: CpimMessage, head: &mut [u8], params: &m
     let h = scanned.header;
     let size = h.size;
     append_read(
+        Manner::Source,
         m,
         head,
         name,

@@ -16,8 +16,7 @@ use Rattle.format.specs.Message.{Entry, Header, Message}
 use Rattle.format.specs.Layout.{Lent, Held, message}
 use Rattle.format.specs.Demand3.{hasHeader, noParam, notType, comesBack}
 use Rattle.format.proofs.Lists.{bcase, clash}
-use Rattle.format.proofs.Texts.RoundTrip.{reads-back}
-use Rattle.format.proofs.Texts.OnlyIf.{back-only}
+use Rattle.format.proofs.Texts.SourceRoundTrip.{reads-back, back-only}
 use Rattle.roundtrip.specs.Clauses.{passing}
 use Rattle.roundtrip.proofs.CountPassing.{passing-all, passing-some}
 use Rattle.roundtrip.specs.declared.Loss.{Loss}

@@ -5,7 +5,7 @@ use mathlib.Core.Bool.{Bool, true}
 use mathlib.Core.Option.{Option, some}
 use lib.ListN.{length}
 use Rattle.format.specs.Bytes.{Bytes}
-use Rattle.format.specs.Escaping.{unescape}
+use Rattle.format.specs.Escaping.{unescapeBy}
 use Rattle.unescape.specs.Reads.{measured, valueOf}
 use Rattle.store_splice.specs.declared.Notation.{Notation}
 use Rattle.store_splice.specs.declared.Notation.the-variants.{Plain, Escaped}
@@ -13,7 +13,7 @@ use Rattle.store_splice.specs.declared.Notation.the-variants.{Plain, Esc
 -- what a text reads as; a plain one always reads, as itself
 abbrev pub readAs : Notation → Bytes → Option Bytes
 readAs Plain s = some s
-readAs Escaped s = unescape s
+readAs (Escaped r) s = unescapeBy r s
 
 -- whether a text reads
 abbrev pub reads : Notation → Bytes → Bool

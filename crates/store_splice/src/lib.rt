@@ -1,6 +1,7 @@
 // Entries put into a store (crates/format/specs/Layout.antt), between those that stand before and behind them. Bytes past the
 // used ones stay as they are.
 
+use format::Manner;
 use format::Numbers;
 use octets::copy_at;
 use octets::shifting::shift;
@@ -18,10 +19,11 @@ ghost use Rattle.format.specs.Layout.{fixed, entryBytes};
 ghost use Rattle.store_splice.specs.Notations.{reads, valueRead, Sized};
 ghost use Rattle.store_splice.specs.Spliced.{entrySize, spliced};
 
-// How a lent text stands for a value (specs/Notations.antt): as it is, or with the escapes of a header line.
+// How a lent text stands for a value (specs/Notations.antt): as it is, or with the escapes of a header line, read in a
+// manner.
 pub enum Notation {
     Plain,
-    Escaped,
+    Escaped(Manner),
 }
 
 // The 16 bytes of numbers of an entry.
@@ -50,8 +52,8 @@ fn put_value(out: &mut [u8], at: usize, text: &[u8], notation: Notation)
         Notation::Plain => {
             copy_at(out, at, text);
         }
-        Notation::Escaped => {
-            unescape_header_value(out, at, text);
+        Notation::Escaped(manner) => {
+            unescape_header_value(manner, out, at, text);
         }
     }
 }

@@ -8,6 +8,7 @@ use lib.Dec.{ltb}
 use borrow.Author.Tests.{ltb-true, ltb-false, ne-eqb}
 use Rattle.format.specs.Characters.{_to_, isScalar, encoding}
 use Rattle.format.specs.Escaping.{fourDigits, scalarEscape}
+use Rattle.format.specs.declared.Manner.{Manner}
 use Rattle.format.proofs.Lists.{bcase}
 use Rattle.format.proofs.Characters.Table.{within-below, within-above}
 use Rattle.format.proofs.Characters.Shapes.{scalar-low, scalar-high}
@@ -16,9 +17,9 @@ use Rattle.unescape.proofs.Hex.{Below, four-small}
 use Rattle.unescape.specs.Backslash.{scalarOf}
 
 -- the number behind `\u` as an escape
-pub scalar-four : (a b c d : ℕ) → scalarOf (orElse 65536 (fourDigits a b c d)) ≡ scalarEscape (fourDigits a b c d)
+pub scalar-four : (r : Manner) (a b c d : ℕ) → scalarOf (orElse 65536 (fourDigits r a b c d)) ≡ scalarEscape (fourDigits r a b c d)
 unfolding scalarEscape
-scalar-four a b c d = go (fourDigits a b c d) (four-small a b c d)
+scalar-four r a b c d = go (fourDigits r a b c d) (four-small r a b c d)
   where
     go : (o : Option ℕ) → Below 65536 o → scalarOf (orElse 65536 o) ≡ scalarEscape o
     go none f = refl

@@ -7,10 +7,12 @@ use native.Mathlib.Omega.{arith}
 use lib.Dec.{eqb}
 use Rattle.format.specs.Bytes.{plus}
 use Rattle.format.specs.Characters.{_to_, within}
-use Rattle.format.specs.Escaping.{digitValue, shifted, fourDigits}
+use Rattle.format.specs.Escaping.{digitValue, shifted, firstDigit, fourDigits}
+use Rattle.format.specs.declared.Manner.{Manner}
+use Rattle.format.specs.declared.Manner.the-variants.{Source, Rfc}
 use Rattle.format.proofs.Characters.Table.{within-high, within-intro, within-below, within-above}
 use Rattle.format.proofs.Escaping.Unescape.{branch, nothing}
-use Rattle.unescape.specs.Values.{orElse, firstValue}
+use Rattle.unescape.specs.Values.{orElse}
 
 pub digit-decimal : (c : ℕ) → 48 ≤ c → c ≤ 57 → digitValue c ≡ some (c - 48)
 unfolding digitValue
@@ -40,20 +42,22 @@ digit-small c n h =
     (branch (within c (65 to 70)) _ _ n (λ t e. let z : c - 55 ≡ n = cc in omega (arith, within-high c (65 to 70) t)) (nothing n)))
     h
 
-first-small : (c : ℕ) → Below 16 (firstValue c)
-first-small c n h = branch (eqb c plus) _ _ n (λ t e. let z : 0 ≡ n = cc in omega arith) (digit-small c n) h
+first-small : (r : Manner) (c : ℕ) → Below 16 (firstDigit r c)
+unfolding firstDigit
+first-small Rfc c n h = digit-small c n h
+first-small Source c n h = branch (eqb c plus) _ _ n (λ t e. let z : 0 ≡ n = cc in omega arith) (digit-small c n) h
 
 shifted-small : (k : ℕ) (o d : Option ℕ) → Below k o → Below 16 d → Below (k * 16) (shifted o d)
 shifted-small k none d f g n h = nothing n h
 shifted-small k (some m) none f g n h = nothing n h
 shifted-small k (some m) (some e) f g n h = let z : m * 16 + e ≡ n = cc in omega (arith, f m refl, g e refl)
 
-pub four-small : (a b c d : ℕ) → Below 65536 (fourDigits a b c d)
+pub four-small : (r : Manner) (a b c d : ℕ) → Below 65536 (fourDigits r a b c d)
 unfolding fourDigits
-four-small a b c d =
-    shifted-small 4096 (shifted (shifted (firstValue a) (digitValue b)) (digitValue c)) (digitValue d)
-    (shifted-small 256 (shifted (firstValue a) (digitValue b)) (digitValue c)
-    (shifted-small 16 (firstValue a) (digitValue b) (first-small a) (digit-small b)) (digit-small c)) (digit-small d)
+four-small r a b c d =
+    shifted-small 4096 (shifted (shifted (firstDigit r a) (digitValue b)) (digitValue c)) (digitValue d)
+    (shifted-small 256 (shifted (firstDigit r a) (digitValue b)) (digitValue c)
+    (shifted-small 16 (firstDigit r a) (digitValue b) (first-small r a) (digit-small b)) (digit-small c)) (digit-small d)
 
 or-most : (k : ℕ) (o : Option ℕ) → Below k o → orElse k o ≤ k
 or-most k none f = omega arith
@@ -62,11 +66,11 @@ or-most k (some n) f = omega (arith, f n refl)
 pub digit-most : (c : ℕ) → orElse 16 (digitValue c) ≤ 16
 digit-most c = or-most 16 (digitValue c) (digit-small c)
 
-pub first-most : (c : ℕ) → orElse 16 (firstValue c) ≤ 16
-first-most c = or-most 16 (firstValue c) (first-small c)
+pub first-most : (r : Manner) (c : ℕ) → orElse 16 (firstDigit r c) ≤ 16
+first-most r c = or-most 16 (firstDigit r c) (first-small r c)
 
-pub four-most : (a b c d : ℕ) → orElse 65536 (fourDigits a b c d) ≤ 65536
-four-most a b c d = or-most 65536 (fourDigits a b c d) (four-small a b c d)
+pub four-most : (r : Manner) (a b c d : ℕ) → orElse 65536 (fourDigits r a b c d) ≤ 65536
+four-most r a b c d = or-most 65536 (fourDigits r a b c d) (four-small r a b c d)
 
 -- the number k stands for none
 none-of : (k : ℕ) (o : Option ℕ) → Below k o → orElse k o ≡ k → o ≡ none
@@ -83,27 +87,27 @@ shifted-none none = refl
 shifted-none (some n) = refl
 
 -- The four digits, as w, x, y and z say.
-module _ (a b c d w x y z : ℕ) (ew : w ≡ orElse 16 (firstValue a)) (ex : x ≡ orElse 16 (digitValue b)) (ey : y ≡ orElse 16 (digitValue c)) (ez : z ≡ orElse 16 (digitValue d)) where
-  pub four-first : w ≡ 16 → 65536 ≡ orElse 65536 (fourDigits a b c d)
+module _ (r : Manner) (a b c d w x y z : ℕ) (ew : w ≡ orElse 16 (firstDigit r a)) (ex : x ≡ orElse 16 (digitValue b)) (ey : y ≡ orElse 16 (digitValue c)) (ez : z ≡ orElse 16 (digitValue d)) where
+  pub four-first : w ≡ 16 → 65536 ≡ orElse 65536 (fourDigits r a b c d)
   unfolding fourDigits
-  four-first h = rw (none-of 16 (firstValue a) (first-small a) (sym ew ∙ h)) refl
+  four-first h = rw (none-of 16 (firstDigit r a) (first-small r a) (sym ew ∙ h)) refl
 
-  pub four-second : x ≡ 16 → 65536 ≡ orElse 65536 (fourDigits a b c d)
+  pub four-second : x ≡ 16 → 65536 ≡ orElse 65536 (fourDigits r a b c d)
   unfolding fourDigits
-  four-second h = rw (none-of 16 (digitValue b) (digit-small b) (sym ex ∙ h), shifted-none (firstValue a)) refl
+  four-second h = rw (none-of 16 (digitValue b) (digit-small b) (sym ex ∙ h), shifted-none (firstDigit r a)) refl
 
-  pub four-third : y ≡ 16 → 65536 ≡ orElse 65536 (fourDigits a b c d)
+  pub four-third : y ≡ 16 → 65536 ≡ orElse 65536 (fourDigits r a b c d)
   unfolding fourDigits
   four-third h =
-      rw (none-of 16 (digitValue c) (digit-small c) (sym ey ∙ h), shifted-none (shifted (firstValue a) (digitValue b))) refl
+      rw (none-of 16 (digitValue c) (digit-small c) (sym ey ∙ h), shifted-none (shifted (firstDigit r a) (digitValue b))) refl
 
-  pub four-fourth : z ≡ 16 → 65536 ≡ orElse 65536 (fourDigits a b c d)
+  pub four-fourth : z ≡ 16 → 65536 ≡ orElse 65536 (fourDigits r a b c d)
   unfolding fourDigits
   four-fourth h =
       rw
-      (none-of 16 (digitValue d) (digit-small d) (sym ez ∙ h), shifted-none (shifted (shifted (firstValue a) (digitValue b)) (digitValue c))) refl
+      (none-of 16 (digitValue d) (digit-small d) (sym ez ∙ h), shifted-none (shifted (shifted (firstDigit r a) (digitValue b)) (digitValue c))) refl
 
-  pub four-all : (w ≡ 16 → ⊥) → (x ≡ 16 → ⊥) → (y ≡ 16 → ⊥) → (z ≡ 16 → ⊥) → ((w * 16 + x) * 16 + y) * 16 + z ≡ orElse 65536 (fourDigits a b c d)
+  pub four-all : (w ≡ 16 → ⊥) → (x ≡ 16 → ⊥) → (y ≡ 16 → ⊥) → (z ≡ 16 → ⊥) → ((w * 16 + x) * 16 + y) * 16 + z ≡ orElse 65536 (fourDigits r a b c d)
   unfolding fourDigits
-  four-all p q r s =
-      rw (some-of 16 w (firstValue a) ew p, some-of 16 x (digitValue b) ex q, some-of 16 y (digitValue c) ey r, some-of 16 z (digitValue d) ez s) refl
+  four-all p q t u =
+      rw (some-of 16 w (firstDigit r a) ew p, some-of 16 x (digitValue b) ex q, some-of 16 y (digitValue c) ey t, some-of 16 z (digitValue d) ez u) refl

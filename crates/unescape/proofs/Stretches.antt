@@ -10,7 +10,8 @@ use lib.ListN.{length, take, drop, length-append, length-drop, take-append-drop,
 use lib.Seq.{drop-drop, length-take-le}
 use borrow.Author.Tests.{eqb-true, eqb-false, ne-eqb}
 use Rattle.format.specs.Bytes.{Bytes, if_then_else_, all, upTo, pasted}
-use Rattle.format.specs.Escaping.{Escape, escapeAt, takesOf, inFront, escaped, unescapeFrom, unescape}
+use Rattle.format.specs.Escaping.{Escape, escapeAt, takesOf, inFront, escaped, unescapeFrom, unescapeBy}
+use Rattle.format.specs.declared.Manner.{Manner}
 use Rattle.format.proofs.Escaping.Unescape.{unescape-skip, behind-behind, plain, plain-read, sound}
 use Rattle.octets.proofs.Paste.{pasted-pasted}
 use Rattle.octets.proofs.Find.{found-within, found-upTo}
@@ -42,15 +43,15 @@ upTo-at (b ∷ s) h = go (eqb 92 b) refl (upTo-at s) h
     go false e f l = f (omega arith)
 
 -- One stretch: k bytes from i on, up to the next backslash.
-module _ (s : Bytes) (i k : ℕ) (found : k ≡ length (upTo 92 (drop i s))) where
+module _ (r : Manner) (s : Bytes) (i k : ℕ) (found : k ≡ length (upTo 92 (drop i s))) where
   pub stretch-within : i ≤ length s → i + k ≤ length s
   stretch-within h = omega (arith, found-within 92 (drop i s) k found, length-drop i s)
 
-  pub stretch : unescape (drop i s) ≡ inFront (take k (drop i s)) (unescape (drop (i + k) s))
+  pub stretch : unescapeBy r (drop i s) ≡ inFront (take k (drop i s)) (unescapeBy r (drop (i + k) s))
   stretch =
-      ap unescape (sym (take-append-drop k (drop i s)))
-      ∙ plain-read (take k (drop i s)) (drop k (drop i s)) (ap plain (sym (found-upTo 92 (drop i s) k found)) ∙ plain-upTo (drop i s))
-      ∙ ap (λ (l : Bytes). inFront (take k (drop i s)) (unescape l)) (drop-drop k i s)
+      ap (unescapeBy r) (sym (take-append-drop k (drop i s)))
+      ∙ plain-read r (take k (drop i s)) (drop k (drop i s)) (ap plain (sym (found-upTo 92 (drop i s) k found)) ∙ plain-upTo (drop i s))
+      ∙ ap (λ (l : Bytes). inFront (take k (drop i s)) (unescapeBy r l)) (drop-drop k i s)
 
   backslash-at : i + k < length s → drop (i + k) s ≡ 92 ∷ drop (i + k + 1) s
   backslash-at h =
@@ -63,56 +64,56 @@ module _ (s : Bytes) (i k : ℕ) (found : k ≡ length (upTo 92 (drop i s))) whe
 
   -- the escape behind it
   pub behind-backslash : i + k < length s
-      → unescape (drop (i + k) s) ≡ escaped (escapeAt (drop (i + k + 1) s)) (unescape (drop (takesOf (escapeAt (drop (i + k + 1) s))) (drop (i + k + 1) s)))
+      → unescapeBy r (drop (i + k) s) ≡ escaped (escapeAt r (drop (i + k + 1) s)) (unescapeBy r (drop (takesOf (escapeAt r (drop (i + k + 1) s))) (drop (i + k + 1) s)))
   unfolding unescapeFrom
   behind-backslash h =
       let t = drop (i + k + 1) s in
-      ap unescape (backslash-at h) ∙ ap (escaped (escapeAt t)) (unescape-skip (takesOf (escapeAt t)) t)
+      ap (unescapeBy r) (backslash-at h) ∙ ap (escaped (escapeAt r t)) (unescape-skip r (takesOf (escapeAt r t)) t)
 
 -- what is read from the escape behind the backslash at i + k, and where it ends
-read-some : (o : Option Escape) (e : Escape) (t : Bytes) → o ≡ some e → escaped o (unescape (drop (takesOf o) t)) ≡ inFront (e .stands) (unescape (drop (e .takes) t))
-read-some none e t h = absurd (let z : _≡_ {A = ℕ} 0 1 = cc in omega arith)
-read-some (some d) e t h = let z : d ≡ e = cc in rw z refl
+read-some : (r : Manner) (o : Option Escape) (e : Escape) (t : Bytes) → o ≡ some e → escaped o (unescapeBy r (drop (takesOf o) t)) ≡ inFront (e .stands) (unescapeBy r (drop (e .takes) t))
+read-some r none e t h = absurd (let z : _≡_ {A = ℕ} 0 1 = cc in omega arith)
+read-some r (some d) e t h = let z : d ≡ e = cc in rw z refl
 
 read-none : (o : Option Escape) (t : Option Bytes) → o ≡ none → escaped o t ≡ none
 read-none none t h = refl
 read-none (some d) t h = absurd (let z : _≡_ {A = ℕ} 0 1 = cc in omega arith)
 
 -- One turn of a loop: w has been read from the first i bytes.
-module _ (s : Bytes) (i k : ℕ) (found : k ≡ length (upTo 92 (drop i s))) (w : Bytes) (so : unescape s ≡ inFront w (unescape (drop i s))) where
-  pub read-stretch : unescape s ≡ inFront (w ++ take k (drop i s)) (unescape (drop (i + k) s))
-  read-stretch = so ∙ ap (inFront w) (stretch s i k found) ∙ behind-behind w (take k (drop i s)) (unescape (drop (i + k) s))
+module _ (r : Manner) (s : Bytes) (i k : ℕ) (found : k ≡ length (upTo 92 (drop i s))) (w : Bytes) (so : unescapeBy r s ≡ inFront w (unescapeBy r (drop i s))) where
+  pub read-stretch : unescapeBy r s ≡ inFront (w ++ take k (drop i s)) (unescapeBy r (drop (i + k) s))
+  read-stretch = so ∙ ap (inFront w) (stretch r s i k found) ∙ behind-behind w (take k (drop i s)) (unescapeBy r (drop (i + k) s))
 
-  pub read-end : length s ≤ i + k → unescape s ≡ some (w ++ take k (drop i s))
+  pub read-end : length s ≤ i + k → unescapeBy r s ≡ some (w ++ take k (drop i s))
   unfolding unescapeFrom
   read-end h = read-stretch ∙ rw (drop-of-length-le s {i = i + k} h) (ap some (append-nil (w ++ take k (drop i s))))
 
-  pub read-refused : i + k < length s → escapeAt (drop (i + k + 1) s) ≡ none → unescape s ≡ none
+  pub read-refused : i + k < length s → escapeAt r (drop (i + k + 1) s) ≡ none → unescapeBy r s ≡ none
   read-refused h e =
       read-stretch
       ∙ ap (inFront (w ++ take k (drop i s)))
-      (behind-backslash s i k found h
-      ∙ read-none (escapeAt (drop (i + k + 1) s)) (unescape (drop (takesOf (escapeAt (drop (i + k + 1) s))) (drop (i + k + 1) s))) e)
+      (behind-backslash r s i k found h
+      ∙ read-none (escapeAt r (drop (i + k + 1) s)) (unescapeBy r (drop (takesOf (escapeAt r (drop (i + k + 1) s))) (drop (i + k + 1) s))) e)
 
-  pub read-escape : i + k < length s → (e : Escape) → escapeAt (drop (i + k + 1) s) ≡ some e
-      → unescape s ≡ inFront ((w ++ take k (drop i s)) ++ e .stands) (unescape (drop (i + k + 1 + e .takes) s))
+  pub read-escape : i + k < length s → (e : Escape) → escapeAt r (drop (i + k + 1) s) ≡ some e
+      → unescapeBy r s ≡ inFront ((w ++ take k (drop i s)) ++ e .stands) (unescapeBy r (drop (i + k + 1 + e .takes) s))
   read-escape h e q =
       let t = drop (i + k + 1) s in
       read-stretch
-      ∙ ap (inFront (w ++ take k (drop i s))) (behind-backslash s i k found h ∙ read-some (escapeAt t) e t q)
-      ∙ behind-behind (w ++ take k (drop i s)) (e .stands) (unescape (drop (e .takes) t))
-      ∙ ap (λ (l : Bytes). inFront ((w ++ take k (drop i s)) ++ e .stands) (unescape l)) (drop-drop (e .takes) (i + k + 1) s)
+      ∙ ap (inFront (w ++ take k (drop i s))) (behind-backslash r s i k found h ∙ read-some r (escapeAt r t) e t q)
+      ∙ behind-behind (w ++ take k (drop i s)) (e .stands) (unescapeBy r (drop (e .takes) t))
+      ∙ ap (λ (l : Bytes). inFront ((w ++ take k (drop i s)) ++ e .stands) (unescapeBy r l)) (drop-drop (e .takes) (i + k + 1) s)
 
 -- an escape lies within the text, and what it stands for is no longer than it
-pub escape-within : (s : Bytes) (j : ℕ) (e : Escape) → j ≤ length s → escapeAt (drop j s) ≡ some e → (j + e .takes ≤ length s) × (length (e .stands) ≤ 1 + e .takes)
-escape-within s j e h q = let o = sound (drop j s) e q in (omega (arith, o .fits, length-drop j s), omega (arith, o .small))
+pub escape-within : (r : Manner) (s : Bytes) (j : ℕ) (e : Escape) → j ≤ length s → escapeAt r (drop j s) ≡ some e → (j + e .takes ≤ length s) × (length (e .stands) ≤ 1 + e .takes)
+escape-within r s j e h q = let o = sound r (drop j s) e q in (omega (arith, o .fits, length-drop j s), omega (arith, o .small))
 
 -- a text that reads is not refused
 pub not-refused : {A : Type 0} (o : Option Bytes) → measured o .ok ≡ true → o ≡ none → A
 not-refused o h e = absurd (false≢true (sym (ap (λ (p : Option Bytes). measured p .ok) e) ∙ h))
 
 -- a text that reads has room for what has been read of it
-pub front-room : (o r : Option Bytes) (x : Bytes) → o ≡ inFront x r → measured o .ok ≡ true → length x ≤ length (valueOf o)
+pub front-room : (o q : Option Bytes) (x : Bytes) → o ≡ inFront x q → measured o .ok ≡ true → length x ≤ length (valueOf o)
 front-room o none x e h = not-refused o h e
 front-room o (some u) x e h = rw e (omega (arith, length-append x u))
 

@@ -1,8 +1,9 @@
 // Document 01, "Escaping": the number behind `\u`, by its digits.
 
+use format::Manner;
 ghost use mathlib.Core.Path.{_≡_};
-ghost use Rattle.format.specs.Escaping.{digitValue, fourDigits};
-ghost use Rattle.unescape.specs.Values.{orElse, firstValue};
+ghost use Rattle.format.specs.Escaping.{digitValue, firstDigit, fourDigits};
+ghost use Rattle.unescape.specs.Values.{orElse};
 
 // The value of a hexadecimal digit in either case; 16 for any other byte.
 fn digit_value(c: u8) -> u32
@@ -16,21 +17,26 @@ fn digit_value(c: u8) -> u32
     }
 }
 
-// The same where the first of four digits is expected, for which a plus may stand.
-fn first_value(c: u8) -> u32
-    ensures { λ r. ⌜ r ≡ orElse 16 (firstValue c) ⌝ }
+// The same where the first of four digits is expected, for which the source takes a plus too.
+fn first_value(manner: Manner, c: u8) -> u32
+    ensures { λ r. ⌜ r ≡ orElse 16 (firstDigit manner c) ⌝ }
 {
-    if c == 43 {
-        return 0;
+    match manner {
+        Manner::Source => {
+            if c == 43 {
+                return 0;
+            }
+            digit_value(c)
+        }
+        Manner::Rfc => digit_value(c),
     }
-    digit_value(c)
 }
 
-// The number after `\u`: four digits, or a plus and three digits; 65536 for anything else.
-pub fn four_digits(a: u8, b: u8, c: u8, d: u8) -> u32
-    ensures { λ r. ⌜ r ≡ orElse 65536 (fourDigits a b c d) ⌝ }
+// The number after `\u`: four digits, by the source also a plus and three digits; 65536 for anything else.
+pub fn four_digits(manner: Manner, a: u8, b: u8, c: u8, d: u8) -> u32
+    ensures { λ r. ⌜ r ≡ orElse 65536 (fourDigits manner a b c d) ⌝ }
 {
-    let w = first_value(a);
+    let w = first_value(manner, a);
     let x = digit_value(b);
     let y = digit_value(c);
     let z = digit_value(d);

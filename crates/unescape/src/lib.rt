@@ -1,6 +1,6 @@
-// Document 01, "Escaping": a header value as it is read, in two steps: the length, for which the caller lends the room,
-// and the bytes. The stretches between backslashes are read as they are, and each escape as the character that it stands
-// for.
+// Document 01, "Escaping": a header value as it is read in either manner, in two steps: the length, for which the caller
+// lends the room, and the bytes. The stretches between backslashes are read as they are, and each escape as the character
+// that it stands for.
 
 mod backslash;
 mod coding;
@@ -10,6 +10,7 @@ use crate::backslash::Read;
 use crate::backslash::escape_at;
 use crate::coding::code_len;
 use crate::coding::put_code;
+use format::Manner;
 use octets::copy_at;
 use octets::finding::find_byte;
 ghost use mathlib.Core.Path.{_≡_};
@@ -17,7 +18,7 @@ ghost use mathlib.Core.Bool.{true};
 ghost use Prim.Native.Nat.{_+_, _≤_};
 ghost use lib.ListN.{length};
 ghost use Rattle.format.specs.Bytes.{pasted};
-ghost use Rattle.format.specs.Escaping.{unescape};
+ghost use Rattle.format.specs.Escaping.{unescapeBy};
 ghost use Rattle.unescape.specs.Reads.{measured, valueOf};
 
 // Whether a text reads, and the length of what it reads as.
@@ -27,8 +28,8 @@ pub struct Unescaped {
 }
 
 // Whether the text reads, and how long what it reads as is.
-pub fn unescaped_len(s: &[u8]) -> Unescaped
-    ensures { λ r. ⌜ r ≡ measured (unescape (now (s .entry))) ⌝ }
+pub fn unescaped_len(manner: Manner, s: &[u8]) -> Unescaped
+    ensures { λ r. ⌜ r ≡ measured (unescapeBy manner (now (s .entry))) ⌝ }
 {
     let mut n = 0;
     let mut i = 0;
@@ -39,7 +40,7 @@ pub fn unescaped_len(s: &[u8]) -> Unescaped
         if s.len() <= end {
             return Unescaped { ok: true, len: n };
         }
-        let e = escape_at(s, end + 1);
+        let e = escape_at(manner, s, end + 1);
         match e {
             Read::Nothing => {
                 return Unescaped { ok: false, len: 0 };
@@ -53,11 +54,11 @@ pub fn unescaped_len(s: &[u8]) -> Unescaped
 }
 
 // Writes what the text reads as from the place at on, and gives the place behind it.
-pub fn unescape_header_value(out: &mut [u8], at: usize, s: &[u8]) -> usize
-    requires reads { ⌜ (measured (unescape (now s))) .ok ≡ true ⌝ }
-    requires fits { ⌜ at + length (valueOf (unescape (now s))) ≤ length (now out) ⌝ }
-    ensures placed { λ r. ⌜ r ≡ at + length (valueOf (unescape (now (s .entry)))) ⌝ }
-    ensures wrote { λ _. ⌜ now (out .exit) ≡ pasted at (valueOf (unescape (now (s .entry)))) (now (out .entry)) ⌝ }
+pub fn unescape_header_value(manner: Manner, out: &mut [u8], at: usize, s: &[u8]) -> usize
+    requires reads { ⌜ (measured (unescapeBy manner (now s))) .ok ≡ true ⌝ }
+    requires fits { ⌜ at + length (valueOf (unescapeBy manner (now s))) ≤ length (now out) ⌝ }
+    ensures placed { λ r. ⌜ r ≡ at + length (valueOf (unescapeBy manner (now (s .entry)))) ⌝ }
+    ensures wrote { λ _. ⌜ now (out .exit) ≡ pasted at (valueOf (unescapeBy manner (now (s .entry)))) (now (out .entry)) ⌝ }
 {
     let mut to = at;
     let mut i = 0;
@@ -69,7 +70,7 @@ pub fn unescape_header_value(out: &mut [u8], at: usize, s: &[u8]) -> usize
         if s.len() <= end {
             return to;
         }
-        let e = escape_at(s, end + 1);
+        let e = escape_at(manner, s, end + 1);
         match e {
             Read::Nothing => {
                 return to;

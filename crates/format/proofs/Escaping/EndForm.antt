@@ -1,4 +1,4 @@
--- Document 02, T-03: a character at an end of a header value, as it is written. It reads back, is UTF-8, has no control byte and at most six
+-- Document 02, T-03: a character at an end of a header value, as it is written. It reads back in either manner, is UTF-8, has no control byte and at most six
 -- bytes for one, and none of the characters that it is written in is white space. Assumes nothing.
 use Prim.Native.Nat.{ℕ, _*_, _≤_, _<_}
 use mathlib.Core.Path.{_≡_, refl, sym, ap, _∙_}
@@ -11,7 +11,8 @@ use lib.ListN.{length}
 use borrow.Author.Tests.{leb-true, ltb-true, not-true}
 use Rattle.format.specs.Bytes.{Bytes, all, backslash}
 use Rattle.format.specs.Characters.{chars, wellFormed, isUtf8, codePoint, isWhite, isControl, isLost}
-use Rattle.format.specs.Escaping.{unicodeEscape, escapeChar, endForm, inFront, unescape}
+use Rattle.format.specs.Escaping.{unicodeEscape, escapeChar, endForm, inFront, unescapeBy}
+use Rattle.format.specs.declared.Manner.{Manner}
 use Rattle.format.proofs.Lists.{bcase, clash, and-left, and-right, all-head, all-tail}
 use Rattle.format.proofs.Characters.Chars.{chars-nil, chars-whole, chars-ascii}
 use Rattle.format.proofs.Characters.WhiteSpace.{white-all}
@@ -36,9 +37,9 @@ lost-code : (g : Bytes) → isLost g ≡ true → codePoint g < 65536
 unfolding all
 lost-code g l = omega (arith, ltb-true (codePoint g) 65536 (white-all (λ n. ltb n 65536) refl g (lost-is-white g l)))
 
-pub end-read : (g s : Bytes) → wellFormed g ≡ true → unescape (endForm g ++ s) ≡ inFront g (unescape s)
-end-read g s w =
-    end-either (λ t. unescape (t ++ s) ≡ inFront g (unescape s)) g (λ l. unicode-char-read g s w (lost-code g l)) (λ l. escape-char-read g s w)
+pub end-read : (r : Manner) (g s : Bytes) → wellFormed g ≡ true → unescapeBy r (endForm g ++ s) ≡ inFront g (unescapeBy r s)
+end-read r g s w =
+    end-either (λ t. unescapeBy r (t ++ s) ≡ inFront g (unescapeBy r s)) g (λ l. unicode-char-read r g s w (lost-code g l)) (λ l. escape-char-read r g s w)
 
 pub end-utf8 : (g : Bytes) → wellFormed g ≡ true → isUtf8 (endForm g) ≡ true
 end-utf8 g w =

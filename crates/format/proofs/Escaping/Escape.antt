@@ -1,4 +1,4 @@
--- A character as `escape` writes it reads back, is UTF-8, has no control byte, and has at most six bytes for one. A text reads back, and has
+-- A character as `escape` writes it reads back in either manner, is UTF-8, has no control byte, and has at most six bytes for one. A text reads back, and has
 -- at most six bytes for one.
 -- One fact about each character carries it: written bare it is no control, else it is written in visible ASCII that reads as the character.
 use Prim.Native.Nat.{ℕ, suc, _+_, _*_, _/_, _%_, _≤_, _<_}
@@ -13,7 +13,9 @@ use lib.ListN.{length, length-append}
 use borrow.Author.Tests.{eqb-true, leb-true, ltb-true, ltb-false, ne-eqb, le-leb, lt-leb, lt-ltb}
 use Rattle.format.specs.Bytes.{Bytes, if_then_else_, all, any, texts, backslash, plus}
 use Rattle.format.specs.Characters.{chars, trailIn, fits, wellFormed, isUtf8, flat, within, _to_, codePoint, encoding, isScalar, isWhite, isControl, isControlCode, isLost}
-use Rattle.format.specs.Escaping.{digit, unicodeEscape, shortForm, longForm, shortOr, escapeChar, escape, digitValue, fourDigits, scalarEscape, longEscape, oneByte, shortEscape, escapeAt, inFront, unescapeFrom, unescape}
+use Rattle.format.specs.Escaping.{digit, unicodeEscape, shortForm, longForm, shortOr, escapeChar, escape, digitValue, firstDigit, fourDigits, scalarEscape, longEscape, oneByte, shortEscape, escapeAt, inFront, unescapeFrom, unescapeBy}
+use Rattle.format.specs.declared.Manner.{Manner}
+use Rattle.format.specs.declared.Manner.the-variants.{Source, Rfc}
 use Rattle.format.proofs.Lists.{bcase, clash, and-left, and-right, and-intro, or-false-left, all-head, all-tail, all-map}
 use Rattle.format.proofs.Characters.Chars.{flat-chars, utf8-whole, utf8-ascii-text, whole-high}
 use Rattle.format.proofs.Escaping.Unescape.{branch, nothing, plain, plain-read, whole-plain}
@@ -35,7 +37,7 @@ visible-printable s h = all-map visible (leb 32) (λ b v. le-leb 32 b (omega (ar
 
 -- What holds of a character that has a short form.
 record Short (b c : ℕ) : Type 0 where
-  reads : (s : Bytes) → escapeAt (c ∷ s) ≡ oneByte b
+  reads : (r : Manner) (s : Bytes) → escapeAt r (c ∷ s) ≡ oneByte b
   shown : visible c ≡ true
   kept : isLost (b ∷ []) ≡ false
 
@@ -48,12 +50,12 @@ short-at k m s b c h e =
 short : (b c : ℕ) → shortForm b ≡ some c → Short b c
 unfolding shortForm escapeAt shortEscape longEscape isLost isWhite isControl isControlCode wellFormed trailIn fits codePoint any
 short b c h =
-    branch (eqb b 92) _ _ c (short-at 92 92 (record { reads = λ s. refl; shown = refl; kept = refl }) b c)
-    (branch (eqb b 34) _ _ c (short-at 34 34 (record { reads = λ s. refl; shown = refl; kept = refl }) b c)
-    (branch (eqb b 8) _ _ c (short-at 8 98 (record { reads = λ s. refl; shown = refl; kept = refl }) b c)
-    (branch (eqb b 9) _ _ c (short-at 9 116 (record { reads = λ s. refl; shown = refl; kept = refl }) b c)
-    (branch (eqb b 10) _ _ c (short-at 10 110 (record { reads = λ s. refl; shown = refl; kept = refl }) b c)
-    (branch (eqb b 13) _ _ c (short-at 13 114 (record { reads = λ s. refl; shown = refl; kept = refl }) b c) (nothing c))))))
+    branch (eqb b 92) _ _ c (short-at 92 92 (record { reads = λ r s. refl; shown = refl; kept = refl }) b c)
+    (branch (eqb b 34) _ _ c (short-at 34 34 (record { reads = λ r s. refl; shown = refl; kept = refl }) b c)
+    (branch (eqb b 8) _ _ c (short-at 8 98 (record { reads = λ r s. refl; shown = refl; kept = refl }) b c)
+    (branch (eqb b 9) _ _ c (short-at 9 116 (record { reads = λ r s. refl; shown = refl; kept = refl }) b c)
+    (branch (eqb b 10) _ _ c (short-at 10 110 (record { reads = λ r s. refl; shown = refl; kept = refl }) b c)
+    (branch (eqb b 13) _ _ c (short-at 13 114 (record { reads = λ r s. refl; shown = refl; kept = refl }) b c) (nothing c))))))
     h
 
 long-plain : (b : ℕ) → shortForm b ≡ none → eqb b backslash ≡ false
@@ -93,26 +95,32 @@ four-number n l =
     let e : n / 256 % 16 + 16 * (n / 4096) ≡ n / 256 = omega arith in
     omega arith
 
-four-read : (n : ℕ) → n < 65536 → fourDigits (digit (n / 4096 % 16)) (digit (n / 256 % 16)) (digit (n / 16 % 16)) (digit (n % 16)) ≡ some n
+-- no digit that is written is a plus, so both manners read the first one alike
+first-read : (r : Manner) (n : ℕ) → n < 16 → firstDigit r (digit n) ≡ some n
+unfolding firstDigit
+first-read Source n l = rw (digit-no-plus n l) (digit-value n l)
+first-read Rfc n l = digit-value n l
+
+four-read : (r : Manner) (n : ℕ) → n < 65536 → fourDigits r (digit (n / 4096 % 16)) (digit (n / 256 % 16)) (digit (n / 16 % 16)) (digit (n % 16)) ≡ some n
 unfolding fourDigits
-four-read n l =
+four-read r n l =
     rw (
-      digit-no-plus (n / 4096 % 16) (omega arith),
-      digit-value (n / 4096 % 16) (omega arith),
+      first-read r (n / 4096 % 16) (omega arith),
       digit-value (n / 256 % 16) (omega arith),
       digit-value (n / 16 % 16) (omega arith),
       digit-value (n % 16) (omega arith),
     )
     (ap some (four-number n l))
 
-unicode-read : (n : ℕ) (s : Bytes) → n < 65536 → isScalar n ≡ true → unescape (unicodeEscape n ++ s) ≡ inFront (encoding n) (unescape s)
+unicode-read : (r : Manner) (n : ℕ) (s : Bytes) → n < 65536 → isScalar n ≡ true → unescapeBy r (unicodeEscape n ++ s) ≡ inFront (encoding n) (unescapeBy r s)
 unfolding unicodeEscape unescapeFrom escapeAt longEscape scalarEscape
-unicode-read n s l h = rw (four-read n l, h) refl
+unicode-read r n s l h = rw (four-read r n l, h) refl
 
 -- a character that is written as `\u` reads back
-pub unicode-char-read : (g s : Bytes) → wellFormed g ≡ true → codePoint g < 65536 → unescape (unicodeEscape (codePoint g) ++ s) ≡ inFront g (unescape s)
-unicode-char-read g s w l =
-    unicode-read (codePoint g) s l (whole-scalar g w) ∙ ap (λ (c : Bytes). inFront c (unescape s)) (encoding-codePoint g w)
+pub unicode-char-read : (r : Manner) (g s : Bytes) → wellFormed g ≡ true → codePoint g < 65536
+    → unescapeBy r (unicodeEscape (codePoint g) ++ s) ≡ inFront g (unescapeBy r s)
+unicode-char-read r g s w l =
+    unicode-read r (codePoint g) s l (whole-scalar g w) ∙ ap (λ (c : Bytes). inFront c (unescapeBy r s)) (encoding-codePoint g w)
 
 pub unicode-visible : (n : ℕ) → all visible (unicodeEscape n) ≡ true
 unfolding unicodeEscape all
@@ -140,7 +148,7 @@ pub data Written (g : Bytes) : Type 0 where
       → escapeChar g ≡ b ∷ t
       → all visible (b ∷ t) ≡ true
       → isLost g ≡ false
-      → ((s : Bytes) → unescape (b ∷ t ++ s) ≡ inFront g (unescape s))
+      → ((r : Manner) (s : Bytes) → unescapeBy r (b ∷ t ++ s) ≡ inFront g (unescapeBy r s))
       → Written g
 
 long-written : (g : Bytes) → wellFormed g ≡ true → plain g ≡ true → escapeChar g ≡ longForm g → Written g
@@ -150,14 +158,14 @@ long-written g w p e = ⊎-elim control (λ t. bare (e ∙ rw t refl) t p) (bcas
     control : isControl g ≡ true → Written g
     control t =
         coded backslash _ (e ∙ ap (λ (c : Bool). if c then unicodeEscape (codePoint g) else g) t) (unicode-visible (codePoint g)) (control-kept g t)
-        (λ s. unicode-char-read g s w (control-code g t))
+        (λ r s. unicode-char-read r g s w (control-code g t))
 
 short-written : (b : ℕ) (o : Option ℕ) → shortForm b ≡ o → wellFormed (b ∷ []) ≡ true → Written (b ∷ [])
 unfolding escapeChar all unescapeFrom
 short-written b none e w = long-written (b ∷ []) w (whole-plain b [] w (long-plain b e)) (rw e refl)
 short-written b (some c) e w =
     let s = short b c e in
-    coded backslash (c ∷ []) (rw e refl) (rw (s .shown) refl) (s .kept) (λ r. rw (s .reads r) refl)
+    coded backslash (c ∷ []) (rw e refl) (rw (s .shown) refl) (s .kept) (λ r t. rw (s .reads r t) refl)
 
 -- every character is written in one of the two ways
 pub written : (g : Bytes) → wellFormed g ≡ true → Written g
@@ -168,25 +176,25 @@ written (b ∷ c ∷ t) w =
     long-written (b ∷ c ∷ t) w
     (whole-plain b (c ∷ t) w (ne-eqb b backslash (λ e. omega (arith, leb-true 128 b (all-head (leb 128) b (c ∷ t) (whole-high b c t w)))))) refl
 
-char-read : (g s : Bytes) → Written g → unescape (escapeChar g ++ s) ≡ inFront g (unescape s)
-char-read g s (bare e c p) = rw e (plain-read g s p)
-char-read g s (coded b t e a k r) = rw e (r s)
+char-read : (r : Manner) (g s : Bytes) → Written g → unescapeBy r (escapeChar g ++ s) ≡ inFront g (unescapeBy r s)
+char-read r g s (bare e c p) = rw e (plain-read r g s p)
+char-read r g s (coded b t e a k q) = rw e (q r s)
 
 -- one character that is written reads back
-pub escape-char-read : (g s : Bytes) → wellFormed g ≡ true → unescape (escapeChar g ++ s) ≡ inFront g (unescape s)
-escape-char-read g s w = char-read g s (written g w)
+pub escape-char-read : (r : Manner) (g s : Bytes) → wellFormed g ≡ true → unescapeBy r (escapeChar g ++ s) ≡ inFront g (unescapeBy r s)
+escape-char-read r g s w = char-read r g s (written g w)
 
 -- characters that are written read back
-unescape-texts : (gs : List Bytes) → all wellFormed gs ≡ true → unescape (texts escapeChar gs) ≡ some (flat gs)
+unescape-texts : (r : Manner) (gs : List Bytes) → all wellFormed gs ≡ true → unescapeBy r (texts escapeChar gs) ≡ some (flat gs)
 unfolding texts unescapeFrom
-unescape-texts [] w = refl
-unescape-texts (g ∷ gs) w =
-    escape-char-read g (texts escapeChar gs) (all-head wellFormed g gs w) ∙ ap (inFront g) (unescape-texts gs (all-tail wellFormed g gs w))
+unescape-texts r [] w = refl
+unescape-texts r (g ∷ gs) w =
+    escape-char-read r g (texts escapeChar gs) (all-head wellFormed g gs w) ∙ ap (inFront g) (unescape-texts r gs (all-tail wellFormed g gs w))
 
 -- what is written reads back
-pub unescape-escape : (v : Bytes) → isUtf8 v ≡ true → unescape (escape v) ≡ some v
+pub unescape-escape : (r : Manner) (v : Bytes) → isUtf8 v ≡ true → unescapeBy r (escape v) ≡ some v
 unfolding escape isUtf8
-unescape-escape v u = unescape-texts (chars v) u ∙ ap some (flat-chars v)
+unescape-escape r v u = unescape-texts r (chars v) u ∙ ap some (flat-chars v)
 
 char-utf8 : (g : Bytes) → wellFormed g ≡ true → Written g → isUtf8 (escapeChar g) ≡ true
 char-utf8 g w (bare e c p) = rw e (utf8-whole g w)

@@ -1,4 +1,4 @@
--- Document 02, T-03: a header value as it is written reads back, is UTF-8, has no control byte, at most six bytes for one, and no white space
+-- Document 02, T-03: a header value as it is written reads back in either manner, is UTF-8, has no control byte, at most six bytes for one, and no white space
 -- at either end, so trimming takes nothing from it. It is the text of `escape` exactly where neither end is white space that is no
 -- control character. Assumes nothing.
 use Prim.Native.Nat.{_*_, _≤_, _<_}
@@ -13,7 +13,8 @@ use lib.ListN.{length, length-append}
 use borrow.Author.Tests.{not-true}
 use Rattle.format.specs.Bytes.{Bytes, all, texts}
 use Rattle.format.specs.Characters.{chars, wellFormed, isUtf8, flat, isWhite, isLost, trim, lastOf, clearOf, clearEnds}
-use Rattle.format.specs.Escaping.{escapeChar, escape, endForm, lastForms, valueForms, valueText, inFront, unescapeFrom, unescape}
+use Rattle.format.specs.Escaping.{escapeChar, escape, endForm, lastForms, valueForms, valueText, inFront, unescapeFrom, unescapeBy}
+use Rattle.format.specs.declared.Manner.{Manner}
 use Rattle.format.proofs.Lists.{bcase, and-left, and-right, and-intro, all-append, all-head, all-tail}
 use Rattle.format.proofs.Characters.Chars.{chars-nil, flat-chars, chars-append, utf8-append, utf8-nil}
 use Rattle.format.proofs.Characters.Trim.{trim-clear}
@@ -39,12 +40,12 @@ module _
   forms-hold (g ∷ gs) h = end g gs (lastForms gs) (all-head p g gs h) (last-holds gs (all-tail p g gs h))
 
 -- what is written reads back
-pub value-read : (v : Bytes) → isUtf8 v ≡ true → unescape (valueText v) ≡ some v
+pub value-read : (r : Manner) (v : Bytes) → isUtf8 v ≡ true → unescapeBy r (valueText v) ≡ some v
 unfolding valueText isUtf8 texts unescapeFrom
-value-read v u =
-    forms-hold (λ gs t. unescape t ≡ some (flat gs)) wellFormed refl
-    (λ g gs t w h. escape-char-read g t w ∙ ap (inFront g) h)
-    (λ g gs t w h. end-read g t w ∙ ap (inFront g) h)
+value-read r v u =
+    forms-hold (λ gs t. unescapeBy r t ≡ some (flat gs)) wellFormed refl
+    (λ g gs t w h. escape-char-read r g t w ∙ ap (inFront g) h)
+    (λ g gs t w h. end-read r g t w ∙ ap (inFront g) h)
     (chars v) u
     ∙ ap some (flat-chars v)
 

@@ -1,17 +1,17 @@
 -- What a text is that has passed its validator: the checks of a `do` block pass one by one. Assumes nothing.
 use Prim.Native.Nat.{ℕ, _≤_}
-use mathlib.Core.Path.{_≡_, refl}
+use mathlib.Core.Path.{_≡_, refl, sym, ap, _∙_}
 use mathlib.Core.Bool.{Bool, true, false}
 use mathlib.Core.List.{List, [], _∷_}
 use lib.Dec.{leb, ltb, eqb}
 use lib.ListN.{length}
-use borrow.Author.Tests.{le-leb, ltb-false}
-use Rattle.format.specs.Bytes.{isEmpty, Bytes, all, any}
+use borrow.Author.Tests.{le-leb, ltb-false, ne-eqb}
+use Rattle.format.specs.Bytes.{isEmpty, Bytes, all, any, has}
 use Rattle.format.specs.Characters.{isAsciiControl}
 use Rattle.format.specs.Limits.{maxName, maxValue, maxParamName, maxParamValue, maxType}
 use Rattle.format.specs.Refusals.{nameEmpty, nameTooLong, nameControl, nameReserved, valueTooLong, contentControl, paramNameEmpty, paramNameTooLong, paramNameReserved, paramValueTooLong, paramValueReserved, typeEmpty, typeTooLong, typeControl, refuseIf, atMost, passes, _>>_}
 use Rattle.format.specs.Validators.{reservedInName, reservedInParamName, reservedInParamValue, headerName, headerValue, contentValue, paramName, paramValue, contentType}
-use Rattle.format.proofs.Lists.{or-false-left, or-false-right, all-cons}
+use Rattle.format.proofs.Lists.{clash, or-false-left, or-false-right, all-cons}
 use Rattle.format.proofs.Steps.{then-passes, refuseIf-passes, atMost-passes}
 
 -- a header name
@@ -104,6 +104,10 @@ unfolding any
 none-none p q f [] h = refl
 none-none p q f (x ∷ xs) h =
     rw (f x (or-false-left (p x) (any p xs) h)) (none-none p q f xs (or-false-right (p x) (any p xs) h))
+
+-- a byte that passes a test stands in no text of which no byte passes it
+pub free-of : (p : ℕ → Bool) (c : ℕ) → p c ≡ true → (s : Bytes) → any p s ≡ false → has c s ≡ false
+free-of p c h s k = none-none p (eqb c) (λ b e. ne-eqb c b (λ q. clash (sym (ap p q) ∙ h) e)) s k
 
 -- a byte that is no ASCII control is 32 or more
 pub printable : (b : ℕ) → isAsciiControl b ≡ false → leb 32 b ≡ true

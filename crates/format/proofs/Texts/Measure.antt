@@ -44,11 +44,11 @@ setsType n = sameLetters (ascii "Content-type") n
 unfoldable pub keptNeed : Entry → ℕ
 keptNeed e = if setsType (trim (e .name)) then 0 else needEntry (keptEntry e)
 
-header-below : (h : Header) → needHeader (keptHeader h) ≤ needHeader h
+pub header-below : (h : Header) → needHeader (keptHeader h) ≤ needHeader h
 unfolding needHeader needAlone total
 header-below h = omega (arith, trim-shorter isWhite (h .name))
 
-header-full : (h : Header) → needHeader (keptHeader h) ≡ needHeader h → clearName h ≡ true
+pub header-full : (h : Header) → needHeader (keptHeader h) ≡ needHeader h → clearName h ≡ true
 unfolding needHeader needAlone total clearName
 header-full h e =
     let a = trim-shorter isWhite (h .name) in
@@ -78,9 +78,6 @@ entry-full e h = ⊎-elim typed other (bcase (setsType (trim (e .name))))
         (ap not (sym (ap setsType (trim-clear isWhite (e .name) n)) ∙ s))
         (and-intro (clearEnds isWhite (e .name)) (clearEnds isWhite (e .value)) n v)
 
--- Where the headers read back need as much as the headers, none has lost anything; likewise the content headers.
-pub headers-full : (hs : List Header) → total needHeader hs ≤ total (λ h. needHeader (keptHeader h)) hs → all clearName hs ≡ true
-headers-full hs k = total-full (λ h. needHeader (keptHeader h)) needHeader header-below clearName header-full hs k
-
+-- Where the content headers read back need as much as the content headers, none has lost anything.
 pub contents-full : (es : List Entry) → total needEntry es ≤ total keptNeed es → all (λ e. notType e && clearContent e) es ≡ true
 contents-full es k = total-full keptNeed needEntry entry-below (λ e. notType e && clearContent e) entry-full es k

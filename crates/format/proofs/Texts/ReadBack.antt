@@ -2,7 +2,7 @@
 -- order, and counts and needs of what is read stay below those of the whole. Assumes nothing.
 use Prim.Native.Nat.{ℕ, suc, _+_, _≤_}
 use mathlib.Core.Path.{_≡_, refl, sym, _∙_}
-use mathlib.Core.Bool.{true, false, not, false≢true}
+use mathlib.Core.Bool.{Bool, true, false, not}
 use mathlib.Core.List.{List, [], _∷_, _++_, map, append-assoc, append-nil}
 use native.Mathlib.Omega.{arith}
 use lib.Dec.{ltb}
@@ -11,41 +11,24 @@ use borrow.Author.Tests.{not-true, le-ltb}
 use Rattle.format.specs.Bytes.{isEmpty, Bytes, ascii, all, total, before, sameLetters}
 use Rattle.format.specs.Characters.{isWhite, clearEnds}
 use Rattle.format.specs.Limits.{maxBody, maxHeaders, maxContents}
-use Rattle.format.specs.Refusals.{tooManyHeaders, tooManyContents, bodyTooLong, noRoom, tooShort, accepted, refuseIf, atMost}
+use Rattle.format.specs.Refusals.{tooManyHeaders, tooManyContents, bodyTooLong, noRoom, tooShort, Out, accepted, refuseIf, atMost}
 use Rattle.format.specs.Validators.{headerName, contentValue, contentType}
 use Rattle.format.specs.Message.{Entry, entryName, Header, nameOf, Message, ascending, increasing, validHeader, validContent, validType, needEntry, needHeader, need}
 use Rattle.format.specs.Calls.{Stores, room, bodyLength, headerCount, contentCount, ifRoom, append, addContentHeader, setBody}
 use Rattle.format.specs.Calls as Calls
 use Rattle.format.specs.Writing.{headerLine, contentLine, typeLine}
-use Rattle.format.specs.Reading.{each, readHeader, readType, readNamed, readContentLine, readLine, readHeaderLine}
-use Rattle.format.specs.Demand3.{noParam, notType, clearName, clearContent}
+use Rattle.format.specs.Reading.{each, readType, readNamed, readContentLine, readLine, readHeaderLine}
+use Rattle.format.specs.Demand3.{notType, clearContent}
 use Rattle.format.proofs.Lists.{and-left, and-right, all-head, all-tail, total-append}
 use Rattle.format.proofs.Splitting.Lines.{line}
 use Rattle.format.proofs.Texts.Last.{insert-last, ascending-last, increasing-last, put-last}
 use Rattle.format.proofs.Characters.Trim.{trim-clear}
 use Rattle.format.proofs.Steps.{then-passed, bind-passed, refuseIf-passed, atMost-passed}
-use Rattle.format.proofs.Messages.Parts.{header-parts, content-parts, type-parts}
+use Rattle.format.proofs.Messages.Parts.{content-parts, type-parts}
 use Rattle.format.proofs.Texts.WriteText.{header-line-is}
-use Rattle.format.proofs.Texts.ReadLine.{read-header-plain, read-content-line, read-type-line}
+use Rattle.format.proofs.Texts.ReadLine.{read-content-line, read-type-line}
 
 -- One entry.
-
-pub no-params : (h : Header) → noParam h ≡ true → h .params ≡ []
-unfolding noParam isEmpty
-no-params h n = go (h .params) n
-  where
-    go : (ps : List Entry) → isEmpty ps ≡ true → ps ≡ []
-    go [] k = refl
-    go (p ∷ ps) k = absurd (false≢true k)
-
--- a header that meets its part of the condition comes back from its line
-pub header-back : (h : Header) → validHeader h ≡ true → noParam h ≡ true → clearName h ≡ true → readHeader (headerLine h) ≡ accepted h
-unfolding clearName
-header-back h v n c =
-    let w = header-parts h v in
-    let p = no-params h n in
-    read-header-plain h v p
-    ∙ rw (trim-clear isWhite (h .name) c, ← p) (then-passed (headerName (h .name)) (accepted h) (w .named))
 
 line-filled : (l : Bytes) → line l ≡ true → isEmpty l ≡ false
 unfolding line isEmpty
@@ -82,31 +65,31 @@ set-last st hs es e t b v o c r =
 
 -- Lists of lines.
 
-header-step : (st : Stores) (hs : List Header) (h : Header) (t b : Bytes) → line (headerLine h) ≡ true → readHeader (headerLine h) ≡ accepted h
-    → append h st (parts hs t [] b) ≡ accepted (parts (hs ++ (h ∷ [])) t [] b)
-    → readHeaderLine readHeader st (headerLine h) (parts hs t [] b) ≡ accepted (parts (hs ++ (h ∷ [])) t [] b)
-unfolding readHeaderLine readLine
-header-step st hs h t b l r a =
-    rw (line-filled (headerLine h) l) (bind-passed (readHeader (headerLine h)) (λ k. append k st (parts hs t [] b)) h r ∙ a)
+-- The header lines, by any reader of a header line that gives back the headers that pass a test.
+module _ (reader : Bytes → Out Header) (ok : Header → Bool)
+    (back : (h : Header) → validHeader h ≡ true → ok h ≡ true → reader (headerLine h) ≡ accepted h) where
+  header-step : (st : Stores) (hs : List Header) (h : Header) (t b : Bytes) → line (headerLine h) ≡ true → reader (headerLine h) ≡ accepted h
+      → append h st (parts hs t [] b) ≡ accepted (parts (hs ++ (h ∷ [])) t [] b)
+      → readHeaderLine reader st (headerLine h) (parts hs t [] b) ≡ accepted (parts (hs ++ (h ∷ [])) t [] b)
+  unfolding readHeaderLine readLine
+  header-step st hs h t b l r a =
+      rw (line-filled (headerLine h) l) (bind-passed (reader (headerLine h)) (λ k. append k st (parts hs t [] b)) h r ∙ a)
 
-pub headers-back : (st : Stores) (hs ks : List Header) (t b : Bytes) → all validHeader ks ≡ true → all noParam ks ≡ true → all clearName ks ≡ true
-    → ascending nameOf (hs ++ ks) ≡ true → length (hs ++ ks) ≤ 50 → 256 + total needHeader (hs ++ ks) ≤ st .head
-    → each (readHeaderLine readHeader st) (map headerLine ks) (parts hs t [] b) ≡ accepted (parts (hs ++ ks) t [] b)
-unfolding each total need
-headers-back st hs [] t b v n c o l r = rw (append-nil hs) refl
-headers-back st hs (k ∷ ks) t b v n c o l r =
-    let e = append-assoc hs (k ∷ []) ks in
-    let v1 = all-head validHeader k ks v in
-    let room : need (parts (hs ++ (k ∷ [])) t [] b) ≤ st .head = omega (arith, total-append needHeader hs (k ∷ []), total-append needHeader hs (k ∷ ks)) in
-    let last = append-last st hs k t b (ascending-last nameOf hs k ks o) (omega (arith, length-append hs (k ∷ ks))) room in
-    let back = header-back k v1 (all-head noParam k ks n) (all-head clearName k ks c) in
-    let ih =
-    headers-back st (hs ++ (k ∷ [])) ks t b (all-tail validHeader k ks v) (all-tail noParam k ks n) (all-tail clearName k ks c)
-    (rw e o) (rw e l) (rw e r)
-    in
-    bind-passed (readHeaderLine readHeader st (headerLine k) (parts hs t [] b)) _ (parts (hs ++ (k ∷ [])) t [] b) (header-step st hs k t b (header-line-is k v1) back last)
-    ∙ ih
-    ∙ rw e refl
+  pub headers-back : (st : Stores) (hs ks : List Header) (t b : Bytes) → all validHeader ks ≡ true → all ok ks ≡ true
+      → ascending nameOf (hs ++ ks) ≡ true → length (hs ++ ks) ≤ 50 → 256 + total needHeader (hs ++ ks) ≤ st .head
+      → each (readHeaderLine reader st) (map headerLine ks) (parts hs t [] b) ≡ accepted (parts (hs ++ ks) t [] b)
+  unfolding each total need
+  headers-back st hs [] t b v p o l r = rw (append-nil hs) refl
+  headers-back st hs (k ∷ ks) t b v p o l r =
+      let e = append-assoc hs (k ∷ []) ks in
+      let v1 = all-head validHeader k ks v in
+      let room : need (parts (hs ++ (k ∷ [])) t [] b) ≤ st .head = omega (arith, total-append needHeader hs (k ∷ []), total-append needHeader hs (k ∷ ks)) in
+      let last = append-last st hs k t b (ascending-last nameOf hs k ks o) (omega (arith, length-append hs (k ∷ ks))) room in
+      let ih = headers-back st (hs ++ (k ∷ [])) ks t b (all-tail validHeader k ks v) (all-tail ok k ks p) (rw e o) (rw e l) (rw e r) in
+      bind-passed (readHeaderLine reader st (headerLine k) (parts hs t [] b)) _ (parts (hs ++ (k ∷ [])) t [] b)
+      (header-step st hs k t b (header-line-is k v1) (back k v1 (all-head ok k ks p)) last)
+      ∙ ih
+      ∙ rw e refl
 
 content-step : (st : Stores) (m k : Message) (e : Entry) → validContent e ≡ true → notType e ≡ true → clearContent e ≡ true
     → addContentHeader (e .name) (e .value) st m ≡ accepted k → readContentLine st (contentLine e) m ≡ accepted k

@@ -1,12 +1,9 @@
 -- Reading one written line: the first colon is the one behind the name, since a name holds none; a space behind it is trimmed away,
 -- and nothing of the value as it is written, so the value comes back whatever its ends are. Assumes nothing.
-use Prim.Native.Nat.{ℕ}
 use mathlib.Core.Path.{_≡_, refl, sym, ap, _∙_}
 use mathlib.Core.Bool.{true, false, not}
 use mathlib.Core.List.{[], _∷_, _++_}
 use native.Mathlib.Omega.{arith}
-use lib.Dec.{eqb}
-use borrow.Author.Tests.{eqb-false, ne-eqb}
 use Rattle.format.specs.Bytes.{Bytes, ascii, colon, semicolon, space, any, texts, has, lower, sameLetters}
 use Rattle.format.specs.Characters.{trailIn, fits, wellFormed, matched, charsFrom, chars, codePoint, isWhite, dropFront, dropBack, trimBy, isUtf8, trim}
 use Rattle.format.specs.Escaping.{valueText}
@@ -16,32 +13,22 @@ use Rattle.format.specs.Message.{Entry, Header, Message, validHeader, va
 use Rattle.format.specs.Calls.{Stores}
 use Rattle.format.specs.Writing.{paramText, headerLine, contentLine, typeLine}
 use Rattle.format.specs.Reading.{each, checkedValue, readValue, readNameAndValue, readHeader, readType, readNamed, readContentLine}
-use Rattle.format.proofs.Lists.{or-false-left, or-false-right}
+use Rattle.format.specs.declared.Manner.the-variants.{Source}
 use Rattle.format.proofs.Characters.Chars.{chars-ascii}
 use Rattle.format.proofs.Splitting.Split.{split-none, occurs-clear, has-at, upTo-at, past-at}
 use Rattle.format.proofs.Escaping.ValueText.{value-read, value-trim}
 use Rattle.format.proofs.Steps.{then-accepted, then-passed, bind-accepted, accepted-same, refuseUnless-passed}
-use Rattle.format.proofs.Messages.Checked.{name-checked, none-none}
+use Rattle.format.proofs.Messages.Checked.{name-checked, free-of}
 use Rattle.format.proofs.Messages.Parts.{header-parts, content-parts}
-
--- a byte differs from any that it is tested against
-other-way : (a b : ℕ) → eqb a b ≡ false → eqb b a ≡ false
-other-way a b h = ne-eqb b a (λ e. eqb-false a b h (sym e))
 
 -- a name holds no colon and no semicolon
 pub name-colon : (s : Bytes) → passes (headerName s) ≡ true → has colon s ≡ false
 unfolding reservedInName any
-name-colon s h =
-    none-none reservedInName (eqb colon) (λ b k. other-way b colon (or-false-left (eqb b colon) (any (eqb b) (ascii ";=\\\"")) k)) s ((name-checked s h) .free)
+name-colon s h = free-of reservedInName colon refl s ((name-checked s h) .free)
 
-pub name-semicolon : (s : Bytes) → passes (headerName s) ≡ true → has semicolon s ≡ false
+name-semicolon : (s : Bytes) → passes (headerName s) ≡ true → has semicolon s ≡ false
 unfolding reservedInName any
-name-semicolon s h =
-    none-none reservedInName (eqb semicolon)
-    (λ b k. other-way b semicolon
-    (or-false-left (eqb b semicolon) (any (eqb b) (ascii "=\\\"")) (or-false-right (eqb b colon) (any (eqb b) (ascii ";=\\\"")) k)))
-    s
-    ((name-checked s h) .free)
+name-semicolon s h = free-of reservedInName semicolon refl s ((name-checked s h) .free)
 
 space-white : isWhite (space ∷ []) ≡ true
 unfolding isWhite wellFormed trailIn fits codePoint any
@@ -76,7 +63,7 @@ read-header-line h v =
 pub read-value : (v : Bytes) → passes (headerValue v) ≡ true → isUtf8 v ≡ true → readValue (space ∷ valueText v) ≡ accepted v
 unfolding readValue checkedValue
 read-value v h u =
-    rw (trim-space (valueText v), value-trim v u, value-read v u) (then-passed (headerValue v) (accepted v) h)
+    rw (trim-space (valueText v), value-trim v u, value-read Source v u) (then-passed (headerValue v) (accepted v) h)
 
 pub read-header-plain : (h : Header) → validHeader h ≡ true → h .params ≡ []
     → readHeader (headerLine h)

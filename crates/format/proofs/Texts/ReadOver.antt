@@ -1,30 +1,31 @@
--- What the lines of T do to the message that is read, line by line and all together: a header line adds one header without
--- parameters, a content line sets the type or one content header, and neither adds more need than the entry had.
--- Each follows from what an accepted line answers, by induction over the lines. Assumes nothing.
-use Prim.Native.Nat.{ℕ, _+_, _≤_}
+-- What the lines of T do to the message that is read, line by line and all together: a header line adds one header, a content line sets the
+-- type or one content header, and neither adds more than the entry had. Each follows from what an accepted line answers, by induction over
+-- the lines. Assumes nothing.
+use Prim.Native.Nat.{ℕ, suc, _+_, _≤_}
 use mathlib.Core.Path.{_≡_, refl, sym, ap, _∙_}
 use mathlib.Core.Bool.{Bool, true, false, _&&_}
 use mathlib.Core.Logic.{⊎-elim}
 use mathlib.Core.List.{List, [], _∷_, _++_, map}
 use native.Mathlib.Omega.{arith}
-use borrow.Author.Tests.{not-true}
+use lib.Dec.{ltb}
+use borrow.Author.Tests.{not-true, ltb-true, ltb-false}
 use Rattle.format.specs.Bytes.{isEmpty, Bytes, ascii, if_then_else_, colon, all, total, texts, has, upTo, past}
 use Rattle.format.specs.Characters.{isWhite, trim, clearEnds}
 use Rattle.format.specs.Escaping.{valueText}
 use Rattle.format.specs.Refusals.{Out, accepted, _>>=_}
-use Rattle.format.specs.Validators.{headerName, contentType}
-use Rattle.format.specs.Message.{Entry, entry, Header, nameOf, Message, insert, put, needEntry, needHeader, validHeader, validContent}
+use Rattle.format.specs.Validators.{contentType}
+use Rattle.format.specs.Message.{Entry, entry, Header, nameOf, Message, insert, put, needEntry, validHeader, validContent}
 use Rattle.format.specs.Calls.{Stores, withHeaders, withContents, append}
-use Rattle.format.specs.Reading.{each, readHeader, readLine, readHeaderLine, readType, readNamed, readContentLine}
+use Rattle.format.specs.Reading.{each, blank, readLine, readHeaderLine, readType, readNamed, readContentLine}
 use Rattle.format.specs.Writing.{paramText, headerLine, contentLine, typeLine}
-use Rattle.format.specs.Demand3.{noParam, notType, clearContent}
+use Rattle.format.specs.Demand3.{notType, clearContent}
 use Rattle.format.proofs.Lists.{bcase, clash, and-left, and-right, all-head, all-tail}
 use Rattle.format.proofs.Characters.Trim.{trim-clear}
 use Rattle.format.proofs.Steps.{accepted-same, then-accepted, bind-accepted, each-keeps}
 use Rattle.format.proofs.Messages.Accepted.{append-accepted, addContentHeader-accepted}
-use Rattle.format.proofs.Messages.Keyed.{all-insert, total-insert, total-put}
-use Rattle.format.proofs.Texts.Measure.{keptHeader, keptEntry, setsType, keptNeed}
-use Rattle.format.proofs.Texts.ReadLine.{read-header-no-params, read-header-plain, read-content-line, read-type-line}
+use Rattle.format.proofs.Messages.Keyed.{total-insert, total-put}
+use Rattle.format.proofs.Texts.Measure.{total-full, keptEntry, setsType, keptNeed}
+use Rattle.format.proofs.Texts.ReadLine.{read-content-line, read-type-line}
 
 -- Steps over the texts of elements are steps over the elements.
 pub each-map : {A L B : Type 0} (run : L → B → Out B) (f : A → L) (xs : List A) (b : B) → each run (map f xs) b ≡ each (λ x. run (f x)) xs b
@@ -50,83 +51,86 @@ type-gives v a c e =
     let k : Message = record { headers = a .headers; type = v; contents = a .contents; body = a .body } in
     sym (accepted-same k c ((then-accepted (contentType v) (accepted k) c e) .0))
 
--- an accepted line of the header section: skipped where it is empty, else it adds a header
-pub empty-skipped : (st : Stores) (a c : Message) → readHeaderLine readHeader st [] a ≡ accepted c → c ≡ a
-unfolding readHeaderLine isEmpty
-empty-skipped st a c e = sym (accepted-same a c e)
-
-pub header-added : (st : Stores) (l : Bytes) (a c : Message) → isEmpty l ≡ false → readHeaderLine readHeader st l a ≡ accepted c
-    → (h : Header) × (readHeader l ≡ accepted h) × (c ≡ withHeaders a (insert nameOf h (a .headers)))
-unfolding readHeaderLine readLine
-header-added st l a c n e =
-    let k = bind-accepted (readHeader l) (λ h. append h st a) c (rw n at e) in
-    (k .0, k .1, (append-accepted (k .0) st a c (k .2)) .0)
-
 -- no header line of T is empty
 header-filled : (n s : Bytes) → isEmpty (n ++ (ascii ":" ++ s)) ≡ false
 unfolding isEmpty
 header-filled [] s = refl
 header-filled (b ∷ n) s = refl
 
-pub header-line-filled : (h : Header) → isEmpty (headerLine h) ≡ false
+header-line-filled : (h : Header) → isEmpty (headerLine h) ≡ false
 unfolding headerLine
 header-line-filled h = header-filled (h .name) (texts paramText (h .params) ++ (ascii " " ++ valueText (h .value)))
 
-no-entries : (es : List Entry) → isEmpty es ≡ true → es ≡ []
-unfolding isEmpty
-no-entries [] h = refl
-no-entries (e ∷ es) h = clash h refl
+-- The header lines of T, by any reader of a header line.
+module _ (reader : Bytes → Out Header) where
+  -- an accepted line of the header section: skipped where it is empty, else it adds a header
+  pub empty-skipped : (st : Stores) (a c : Message) → readHeaderLine reader st [] a ≡ accepted c → c ≡ a
+  unfolding readHeaderLine isEmpty
+  empty-skipped st a c e = sym (accepted-same a c e)
 
-no-params : (h : Header) → noParam h ≡ true → h .params ≡ []
-unfolding noParam
-no-params h k = no-entries (h .params) k
+  pub header-added : (st : Stores) (l : Bytes) (a c : Message) → isEmpty l ≡ false → readHeaderLine reader st l a ≡ accepted c
+      → (h : Header) × (reader l ≡ accepted h) × (c ≡ withHeaders a (insert nameOf h (a .headers)))
+  unfolding readHeaderLine readLine
+  header-added st l a c n e =
+      let k = bind-accepted (reader l) (λ h. append h st a) c (rw n at e) in
+      (k .0, k .1, (append-accepted (k .0) st a c (k .2)) .0)
 
--- The header lines of T.
-abbrev headerStep : Stores → Header → Message → Out Message
-headerStep st h a = readHeaderLine readHeader st (headerLine h) a
+  abbrev headerStep : Stores → Header → Message → Out Message
+  headerStep st h a = readHeaderLine reader st (headerLine h) a
 
-no-param-step : (st : Stores) (h : Header) (a c : Message) → validHeader h ≡ true → all noParam (a .headers) ≡ true → headerStep st h a ≡ accepted c
-    → all noParam (c .headers) ≡ true
-unfolding noParam isEmpty
-no-param-step st h a c v p e =
-    let k = header-added st (headerLine h) a c (header-line-filled h) e in
-    let none : noParam (k .0) ≡ true = rw (read-header-no-params h v (k .0) (k .1)) refl in
-    rw (k .2) (all-insert nameOf noParam (k .0) (a .headers) none p)
+  -- they set no content header
+  header-contents-step : (es : List Entry) (st : Stores) (h : Header) (a c : Message) → validHeader h ≡ true → a .contents ≡ es → headerStep st h a ≡ accepted c
+      → c .contents ≡ es
+  header-contents-step es st h a c v p e = rw ((header-added st (headerLine h) a c (header-line-filled h) e) .2) p
 
--- no header read from them has a parameter
-pub no-param-read : (st : Stores) (hs : List Header) (a c : Message) → all validHeader hs ≡ true → all noParam (a .headers) ≡ true
-    → each (readHeaderLine readHeader st) (map headerLine hs) a ≡ accepted c → all noParam (c .headers) ≡ true
-no-param-read st hs a c v p e =
-    each-keeps (λ b. all noParam (b .headers) ≡ true) validHeader (headerStep st) (no-param-step st) hs a c v p
-    (sym (each-map (readHeaderLine readHeader st) headerLine hs a) ∙ e)
+  pub header-contents : (st : Stores) (hs : List Header) (a c : Message) → all validHeader hs ≡ true
+      → each (readHeaderLine reader st) (map headerLine hs) a ≡ accepted c → c .contents ≡ a .contents
+  header-contents st hs a c v e =
+      each-keeps (λ b. b .contents ≡ a .contents) validHeader (headerStep st) (header-contents-step (a .contents) st) hs a c v refl
+      (sym (each-map (readHeaderLine reader st) headerLine hs a) ∙ e)
 
--- they set no content header
-header-contents-step : (es : List Entry) (st : Stores) (h : Header) (a c : Message) → validHeader h ≡ true → a .contents ≡ es → headerStep st h a ≡ accepted c
-    → c .contents ≡ es
-header-contents-step es st h a c v p e = rw ((header-added st (headerLine h) a c (header-line-filled h) e) .2) p
+  -- What is read of a header's line is never larger than the header, and as large only where it meets a clause: so, if the headers read are
+  -- the headers written, all of them meet the clause. Sizes are counted from 1, so that a header of size 0 can fail it.
+  module _ (Q clause : Header → Bool) (size : Header → ℕ)
+      (sized : (h k : Header) → Q h ≡ true → reader (headerLine h) ≡ accepted k → (size k ≤ size h) × (size k ≡ size h → clause h ≡ true)) where
+    abbrev counted : Header → ℕ
+    counted h = suc (size h)
 
-pub header-contents : (st : Stores) (hs : List Header) (a c : Message) → all validHeader hs ≡ true
-    → each (readHeaderLine readHeader st) (map headerLine hs) a ≡ accepted c → c .contents ≡ a .contents
-header-contents st hs a c v e =
-    each-keeps (λ b. b .contents ≡ a .contents) validHeader (headerStep st) (header-contents-step (a .contents) st) hs a c v refl
-    (sym (each-map (readHeaderLine readHeader st) headerLine hs a) ∙ e)
+    -- what a header that is read adds at most
+    adds : Header → ℕ
+    adds h = if clause h then counted h else size h
 
--- What they add to the need.
-header-need-step : (st : Stores) (h : Header) (a c : Message) → (validHeader h && noParam h) ≡ true → headerStep st h a ≡ accepted c
-    → total needHeader (c .headers) ≤ total needHeader (a .headers) + needHeader (keptHeader h)
-header-need-step st h a c v e =
-    let k = header-added st (headerLine h) a c (header-line-filled h) e in
-    let none = no-params h (and-right (validHeader h) (noParam h) v) in
-    let r = sym (read-header-plain h (and-left (validHeader h) (noParam h) v) none) ∙ k .1 in
-    let same = accepted-same (keptHeader h) (k .0) ((then-accepted (headerName (trim (h .name))) (accepted (keptHeader h)) (k .0) r) .0) in
-    rw (k .2, ← same) (omega (arith, total-insert nameOf needHeader (keptHeader h) (a .headers)))
+    adds-below : (h : Header) → adds h ≤ counted h
+    unfolding adds
+    adds-below h = ⊎-elim (λ e. rw e (omega arith)) (λ e. rw e (omega arith)) (bcase (clause h))
 
-pub headers-need : (st : Stores) (hs : List Header) (a c : Message) → all (λ h. validHeader h && noParam h) hs ≡ true
-    → each (readHeaderLine readHeader st) (map headerLine hs) a ≡ accepted c
-    → total needHeader (c .headers) ≤ total needHeader (a .headers) + total (λ h. needHeader (keptHeader h)) hs
-headers-need st hs a c v e =
-    each-total (λ b. total needHeader (b .headers)) (λ h. needHeader (keptHeader h)) (λ h. validHeader h && noParam h) (headerStep st) (header-need-step st) hs a c v
-    (sym (each-map (readHeaderLine readHeader st) headerLine hs a) ∙ e)
+    adds-full : (h : Header) → adds h ≡ counted h → clause h ≡ true
+    unfolding adds
+    adds-full h e = ⊎-elim (λ q. q) (λ q. absurd (omega (arith, rw q at e))) (bcase (clause h))
+
+    read-adds : (h k : Header) → Q h ≡ true → reader (headerLine h) ≡ accepted k → counted k ≤ adds h
+    unfolding adds
+    read-adds h k q e = ⊎-elim (λ c. rw c (omega (arith, sized h k q e .0))) (λ c. rw c (smaller c)) (bcase (clause h))
+      where
+        smaller : clause h ≡ false → counted k ≤ size h
+        smaller c =
+            ⊎-elim (λ t. omega (arith, ltb-true (size k) (size h) t))
+            (λ t. clash (sized h k q e .1 (omega (arith, sized h k q e .0, ltb-false (size k) (size h) t))) c)
+            (bcase (ltb (size k) (size h)))
+
+    size-step : (st : Stores) (h : Header) (a c : Message) → Q h ≡ true → headerStep st h a ≡ accepted c
+        → total counted (c .headers) ≤ total counted (a .headers) + adds h
+    size-step st h a c q e =
+        let k = header-added st (headerLine h) a c (header-line-filled h) e in
+        rw (k .2) (omega (arith, total-insert nameOf counted (k .0) (a .headers), read-adds h (k .0) q (k .1)))
+
+    pub clause-met : (st : Stores) (hs : List Header) (a : Message) → all Q hs ≡ true → each (readHeaderLine reader st) (map headerLine hs) blank ≡ accepted a
+        → hs ≡ a .headers → all clause hs ≡ true
+    unfolding total
+    clause-met st hs a q e s =
+        let n = each-total (λ b. total counted (b .headers)) adds Q (headerStep st) (size-step st) hs blank a q
+        (sym (each-map (readHeaderLine reader st) headerLine hs blank) ∙ e) in
+        total-full adds counted adds-below clause adds-full hs (omega (arith, n, ap (total counted) s))
 
 -- The content lines of T.
 abbrev contentStep : Stores → Entry → Message → Out Message

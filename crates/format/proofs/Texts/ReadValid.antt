@@ -10,12 +10,14 @@ use native.Mathlib.Omega.{arith}
 use lib.ListN.{length}
 use Rattle.format.specs.Bytes.{isEmpty, Bytes, ascii, all, any, colon, semicolon, equals, CRLF, CRLFCRLF, occurs, has, upTo, past, sameLetters, Pieces, pieces, split}
 use Rattle.format.specs.Characters.{isUtf8, isAsciiControl, isWhite, trim}
-use Rattle.format.specs.Escaping.{unescape}
+use Rattle.format.specs.Escaping.{unescapeBy}
 use Rattle.format.specs.Refusals.{badEscape, tooFewSections, Out, accepted, passes, refuseIf, atMost, _>>_}
 use Rattle.format.specs.Validators.{headerValue, contentType, utf8}
 use Rattle.format.specs.Message.{Entry, Header, Message, ascending, increasing, need, validHeader, valid}
 use Rattle.format.specs.Calls.{Stores}
 use Rattle.format.specs.Reading.{each, separator, sections, lineEnd, lines, readParam, checkedValue, readValue, readNameAndValue, readHeader, readType, readNamed, readContentLine, blank, readLine, readHeaderLine, Parts, partsOf, textParts, readParts, readWith, read}
+use Rattle.format.specs.declared.Manner.{Manner}
+use Rattle.format.specs.declared.Manner.the-variants.{Source}
 use Rattle.format.proofs.Lists.{bcase, all-head, all-tail}
 use Rattle.format.proofs.Characters.Chars.{utf8-ascii-text}
 use Rattle.format.proofs.Splitting.SplitUtf8.{split-utf8, upTo-utf8, past-utf8}
@@ -62,20 +64,20 @@ checkedValue-within (some w) v h =
     let e = accepted-same w v (a .0) in
     (ap some e, rw e at (a .1))
 
-readValue-within : (s v : Bytes) → isUtf8 s ≡ true → readValue s ≡ accepted v → (isUtf8 v ≡ true) × (passes (headerValue v) ≡ true)
-unfolding readValue
-readValue-within s v u h =
-    let a = checkedValue-within (unescape (trim s)) v h in
-    (unescape-utf8 (trim s) v (trim-utf8 isWhite s u) (a .0), a .1)
+-- by either manner
+pub value-within : (r : Manner) (s v : Bytes) → isUtf8 s ≡ true → checkedValue (unescapeBy r s) ≡ accepted v → (isUtf8 v ≡ true) × (passes (headerValue v) ≡ true)
+value-within r s v u h =
+    let a = checkedValue-within (unescapeBy r s) v h in
+    (unescape-utf8 r s v u (a .0), a .1)
 
 readParts-valid : (left : Pieces) (right : Bytes) (h : Header) → all isUtf8 (pieces left) ≡ true → isUtf8 right ≡ true
     → readNameAndValue left right ≡ accepted h → validHeader h ≡ true
-unfolding readNameAndValue
+unfolding readNameAndValue readValue
 readParts-valid left right h u x e =
     let a = then-accepted _ _ _ e in
     let b = bind-accepted _ _ _ (a .0) in
     let c = bind-accepted _ _ _ (b .2) in
-    let v = readValue-within right (c .0) x (c .1) in
+    let v = value-within Source (trim right) (c .0) (trim-utf8 isWhite right x) (c .1) in
     let ps = each-keeps Params isUtf8 readParam readParam-within (left .rest) [] (b .0) (all-tail isUtf8 (left .first) (left .rest) u) no-params (b .1) in
     rw (← accepted-same _ h (c .2))
     (header-whole _

@@ -18,14 +18,14 @@ unescape-header-value-requires : tie.Need-unescape-header-value-requires
 unescape-header-value-requires c κs =
     let start : tie.Start = search in
     let text = start .args .text .now in
-    let told = the tie.After-enum-told2 (search) .enum-told2 .given .1 in
+    let told = the tie.After-notation (search) .notation .given .1 in
     (sym (ap (λ (n : Notation). reads n text) told) ∙ start .pre .0, omega (arith, start .pre .1, ap (λ (n : Notation). length (valueRead n text)) told))
 
 returns : tie.Need-returns
 returns c = rw (the tie.After-enum-told (search) .enum-told .given .1) (the tie.After-copy-at (search) .copy-at .ensures)
 
 returns-2 : tie.Need-returns-2
-returns-2 c = rw (the tie.After-enum-told2 (search) .enum-told2 .given .1) (the tie.After-unescape-header-value (search) .unescape-header-value .ensures .1)
+returns-2 c = rw (the tie.After-notation (search) .notation .given .1) (the tie.After-unescape-header-value (search) .unescape-header-value .ensures .1)
 
 pub put-value-spec : {M : Type 1} → statement M
 put-value-spec =

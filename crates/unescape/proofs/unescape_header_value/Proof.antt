@@ -9,7 +9,7 @@ use borrow.Author.Needs.{needs}
 use mathlib.Core.Option.{some, none}
 use Rattle.format.specs.Bytes.{Bytes, upTo, pasted}
 use Rattle.format.specs.Characters.{encoding}
-use Rattle.format.specs.Escaping.{escapeAt, inFront, unescape}
+use Rattle.format.specs.Escaping.{escapeAt, inFront, unescapeBy}
 use Rattle.format.proofs.Escaping.Unescape.{behind-nil}
 use Rattle.octets.proofs.Paste.{pasted-nil, length-pasted}
 use Rattle.format.proofs.Typed.{the}
@@ -19,21 +19,21 @@ use Rattle.unescape.proofs.unescape_header_value.Statement.{statement}
 use Rattle.unescape.proofs.unescape_header_value.Tie as tie
 
 abbrev Inv-loop : tie.InvT-loop
-Inv-loop out₀ at s to₀ i₀ out to i =
+Inv-loop r out₀ at s to₀ i₀ out to i =
     (i ≤ length s)
     × (length out ≡ length out₀)
     × (w : Bytes)
-    × (unescape s ≡ inFront w (unescape (drop i s)))
+    × (unescapeBy r s ≡ inFront w (unescapeBy r (drop i s)))
     × (to ≡ at + length w)
     × (out ≡ pasted at w out₀)
 
 abbrev μ-loop : tie.MeasureT-loop
-μ-loop out₀ at s to₀ i₀ out to i = length s - i
+μ-loop r out₀ at s to₀ i₀ out to i = length s - i
 
 loop-holds : tie.Need-loop-holds Inv-loop μ-loop
 loop-holds c =
     let args = the (tie.Start Inv-loop μ-loop) (search) .args in
-    (omega arith, refl, [], sym (behind-nil (unescape (args .s .now))), omega arith, sym (pasted-nil (args .at) (args .out .now)))
+    (omega arith, refl, [], sym (behind-nil (unescapeBy (the (tie.Start Inv-loop μ-loop) (search) .args .manner) (args .s .now))), omega arith, sym (pasted-nil (args .at) (args .out .now)))
 
 -- the next backslash
 found : (c : tie.After-find-byte Inv-loop μ-loop) → c .find-byte .result ≡ length (upTo 92 (drop (the (tie.At-loop Inv-loop μ-loop) (search) .loop .i) (the (tie.Start Inv-loop μ-loop) (search) .args .s .now)))
@@ -43,7 +43,7 @@ found c =
     c .find-byte .ensures ∙ ap (λ (l : Bytes). length (upTo 92 l)) (take-all (length s - i) (drop i s) (simp length-drop (omega arith)))
 
 within : (c : tie.After-find-byte Inv-loop μ-loop) → the (tie.At-loop Inv-loop μ-loop) (search) .loop .i + c .find-byte .result ≤ length (the (tie.Start Inv-loop μ-loop) (search) .args .s .now)
-within c = stretch-within (the (tie.Start Inv-loop μ-loop) (search) .args .s .now) (the (tie.At-loop Inv-loop μ-loop) (search) .loop .i) (c .find-byte .result) (found c) (omega arith)
+within c = stretch-within (the (tie.Start Inv-loop μ-loop) (search) .args .manner) (the (tie.Start Inv-loop μ-loop) (search) .args .s .now) (the (tie.At-loop Inv-loop μ-loop) (search) .loop .i) (c .find-byte .result) (found c) (omega arith)
 
 -- there is room for the stretch before it
 room : (c : tie.After-find-byte Inv-loop μ-loop) → the (tie.At-loop Inv-loop μ-loop) (search) .loop .to + c .find-byte .result ≤ length (the (tie.Start Inv-loop μ-loop) (search) .args .out .now)
@@ -59,7 +59,7 @@ room c =
       l .inv .4,
       start .pre .1,
       stretch-length s (l .i) k w (within c),
-      front-room (unescape s) (unescape (drop (l .i + k) s)) x (read-stretch s (l .i) k (found c) w (l .inv .3)) (start .pre .0),
+      front-room (unescapeBy (the (tie.Start Inv-loop μ-loop) (search) .args .manner) s) (unescapeBy (the (tie.Start Inv-loop μ-loop) (search) .args .manner) (drop (l .i + k) s)) x (read-stretch (the (tie.Start Inv-loop μ-loop) (search) .args .manner) s (l .i) k (found c) w (l .inv .3)) (start .pre .0),
     )
 
 add-end : tie.Need-add-end Inv-loop μ-loop
@@ -113,7 +113,7 @@ returns c =
     let l = the (tie.At-loop Inv-loop μ-loop) (search) .loop in
     let k = f .find-byte .result in
     let w = l .inv .2 in
-    rw (read-end (args .s .now) (l .i) k (found f) w (l .inv .3) (omega arith))
+    rw (read-end (the (tie.Start Inv-loop μ-loop) (search) .args .manner) (args .s .now) (l .i) k (found f) w (l .inv .3) (omega arith))
     (omega (arith, stretch-length (args .s .now) (l .i) k w (within f), l .inv .4), copied (search))
 
 add-escape-at : tie.Need-add-escape-at Inv-loop μ-loop
@@ -130,15 +130,15 @@ returns-2 c =
     let f : tie.After-find-byte Inv-loop μ-loop = search in
     let start : tie.Start Inv-loop μ-loop = search in
     let l = the (tie.At-loop Inv-loop μ-loop) (search) .loop in
-    let q : escapeAt (drop (l .i + f .find-byte .result + 1) (start .args .s .now)) ≡ none =
+    let q : escapeAt (the (tie.Start Inv-loop μ-loop) (search) .args .manner) (drop (l .i + f .find-byte .result + 1) (start .args .s .now)) ≡ none =
     sym (the (tie.After-escape-at Inv-loop μ-loop) (search) .escape-at .ensures .0) ∙ ap escapeOf (c .enum-told .given .1) in
-    not-refused (unescape (start .args .s .now)) (start .pre .0)
-    (read-refused (start .args .s .now) (l .i) (f .find-byte .result) (found f) (l .inv .2) (l .inv .3) (omega arith) q)
+    not-refused (unescapeBy (the (tie.Start Inv-loop μ-loop) (search) .args .manner) (start .args .s .now)) (start .pre .0)
+    (read-refused (the (tie.Start Inv-loop μ-loop) (search) .args .manner) (start .args .s .now) (l .i) (f .find-byte .result) (found f) (l .inv .2) (l .inv .3) (omega arith) q)
 
 -- the escape behind the backslash
 coded :
     (c : tie.After-e Inv-loop μ-loop)
-    → escapeAt (drop (the (tie.At-loop Inv-loop μ-loop) (search) .loop .i + the (tie.After-find-byte Inv-loop μ-loop) (search) .find-byte .result + 1) (the (tie.Start Inv-loop μ-loop) (search) .args .s .now))
+    → escapeAt (the (tie.Start Inv-loop μ-loop) (search) .args .manner) (drop (the (tie.At-loop Inv-loop μ-loop) (search) .loop .i + the (tie.After-find-byte Inv-loop μ-loop) (search) .find-byte .result + 1) (the (tie.Start Inv-loop μ-loop) (search) .args .s .now))
     ≡ some (record { stands = encoding (c .e .given .0 .0); takes = c .e .given .0 .1 .0 })
 coded c = sym (the (tie.After-escape-at Inv-loop μ-loop) (search) .escape-at .ensures .0) ∙ ap escapeOf (c .e .given .1)
 
@@ -148,7 +148,7 @@ ends :
     × (length (encoding (c .e .given .0 .0)) ≤ 1 + c .e .given .0 .1 .0)
 ends c =
     let f : tie.After-find-byte Inv-loop μ-loop = search in
-    escape-within (the (tie.Start Inv-loop μ-loop) (search) .args .s .now) (the (tie.At-loop Inv-loop μ-loop) (search) .loop .i + f .find-byte .result + 1) _ (omega (arith, within f)) (coded c)
+    escape-within (the (tie.Start Inv-loop μ-loop) (search) .args .manner) (the (tie.Start Inv-loop μ-loop) (search) .args .s .now) (the (tie.At-loop Inv-loop μ-loop) (search) .loop .i + f .find-byte .result + 1) _ (omega (arith, within f)) (coded c)
 
 -- there is room for what it stands for
 room-behind :
@@ -169,7 +169,7 @@ room-behind c =
       start .pre .1,
       stretch-length s (l .i) k w (within f),
       length-append x g,
-      front-room (unescape s) (unescape (drop (l .i + k + 1 + c .e .given .0 .1 .0) s)) (x ++ g) (read-escape s (l .i) k (found f) w (l .inv .3) (omega arith) _ (coded c)) (start .pre .0),
+      front-room (unescapeBy (the (tie.Start Inv-loop μ-loop) (search) .args .manner) s) (unescapeBy (the (tie.Start Inv-loop μ-loop) (search) .args .manner) (drop (l .i + k + 1 + c .e .given .0 .1 .0) s)) (x ++ g) (read-escape (the (tie.Start Inv-loop μ-loop) (search) .args .manner) s (l .i) k (found f) w (l .inv .3) (omega arith) _ (coded c)) (start .pre .0),
     )
 
 put-code-requires : tie.Need-put-code-requires Inv-loop μ-loop
@@ -213,7 +213,7 @@ loop-again c =
       ends e .0,
       ap length out ∙ length-pasted (args .at) (x ++ g) (args .out .now) (omega (arith, length-append x g)),
       x ++ g,
-      read-escape s (l .i) k (found f) w (l .inv .3) (omega arith) _ (coded e),
+      read-escape (the (tie.Start Inv-loop μ-loop) (search) .args .manner) s (l .i) k (found f) w (l .inv .3) (omega arith) _ (coded e),
       omega (arith, length-append x g, c .code-len .ensures),
       out,
     )

@@ -9,7 +9,7 @@ use borrow.Author.Needs.{needs}
 use mathlib.Core.Option.{some, none}
 use Rattle.format.specs.Bytes.{Bytes, upTo}
 use Rattle.format.specs.Characters.{encoding}
-use Rattle.format.specs.Escaping.{escapeAt, inFront, unescape}
+use Rattle.format.specs.Escaping.{escapeAt, inFront, unescapeBy}
 use Rattle.format.proofs.Escaping.Unescape.{behind-nil}
 use Rattle.format.proofs.Typed.{the}
 use Rattle.unescape.specs.Backslash.{escapeOf}
@@ -19,13 +19,13 @@ use Rattle.unescape.proofs.unescaped_len.Statement.{statement}
 use Rattle.unescape.proofs.unescaped_len.Tie as tie
 
 abbrev Inv-loop : tie.InvT-loop
-Inv-loop s n₀ i₀ n i = (i ≤ length s) × (n ≤ i) × (w : Bytes) × (unescape s ≡ inFront w (unescape (drop i s))) × (length w ≡ n)
+Inv-loop r s n₀ i₀ n i = (i ≤ length s) × (n ≤ i) × (w : Bytes) × (unescapeBy r s ≡ inFront w (unescapeBy r (drop i s))) × (length w ≡ n)
 
 abbrev μ-loop : tie.MeasureT-loop
-μ-loop s n₀ i₀ n i = length s - i
+μ-loop r s n₀ i₀ n i = length s - i
 
 loop-holds : tie.Need-loop-holds Inv-loop μ-loop
-loop-holds c = (omega arith, omega arith, [], sym (behind-nil (unescape (the (tie.Start Inv-loop μ-loop) (search) .args .s .now))), refl)
+loop-holds c = (omega arith, omega arith, [], sym (behind-nil (unescapeBy (the (tie.Start Inv-loop μ-loop) (search) .args .manner) (the (tie.Start Inv-loop μ-loop) (search) .args .s .now))), refl)
 
 -- the next backslash
 found : (c : tie.After-find-byte Inv-loop μ-loop) → c .find-byte .result ≡ length (upTo 92 (drop (the (tie.At-loop Inv-loop μ-loop) (search) .loop .i) (the (tie.Start Inv-loop μ-loop) (search) .args .s .now)))
@@ -35,7 +35,7 @@ found c =
     c .find-byte .ensures ∙ ap (λ (l : Bytes). length (upTo 92 l)) (take-all (length s - i) (drop i s) (simp length-drop (omega arith)))
 
 within : (c : tie.After-find-byte Inv-loop μ-loop) → the (tie.At-loop Inv-loop μ-loop) (search) .loop .i + c .find-byte .result ≤ length (the (tie.Start Inv-loop μ-loop) (search) .args .s .now)
-within c = stretch-within (the (tie.Start Inv-loop μ-loop) (search) .args .s .now) (the (tie.At-loop Inv-loop μ-loop) (search) .loop .i) (c .find-byte .result) (found c) (omega arith)
+within c = stretch-within (the (tie.Start Inv-loop μ-loop) (search) .args .manner) (the (tie.Start Inv-loop μ-loop) (search) .args .s .now) (the (tie.At-loop Inv-loop μ-loop) (search) .loop .i) (c .find-byte .result) (found c) (omega arith)
 
 add-n : tie.Need-add-n Inv-loop μ-loop
 add-n c = omega (arith, within c)
@@ -50,8 +50,8 @@ returns c =
     let l = at-loop .loop in
     let k = the (tie.After-find-byte Inv-loop μ-loop) (search) .find-byte .result in
     let w = l .inv .2 in
-    measured-some (unescape s) (w ++ take k (drop (l .i) s)) (l .n + k)
-    (read-end s (l .i) k (found (search)) w (l .inv .3) (omega arith)) (stretch-length s (l .i) k w (within (search)) ∙ ap (λ (n : ℕ). n + k) (l .inv .4))
+    measured-some (unescapeBy (the (tie.Start Inv-loop μ-loop) (search) .args .manner) s) (w ++ take k (drop (l .i) s)) (l .n + k)
+    (read-end (the (tie.Start Inv-loop μ-loop) (search) .args .manner) s (l .i) k (found (search)) w (l .inv .3) (omega arith)) (stretch-length s (l .i) k w (within (search)) ∙ ap (λ (n : ℕ). n + k) (l .inv .4))
 
 add-escape-at : tie.Need-add-escape-at Inv-loop μ-loop
 add-escape-at c = omega (arith, within (search))
@@ -67,13 +67,13 @@ returns-2 c =
     let l = at-loop .loop in
     let k = f .find-byte .result in
     let r = the (tie.After-escape-at Inv-loop μ-loop) (search) .escape-at in
-    let q : escapeAt (drop (l .i + k + 1) s) ≡ none = sym (r .ensures .0) ∙ ap escapeOf (c .enum-told .given .1) in
-    sym (ap measured (read-refused s (l .i) k (found f) (l .inv .2) (l .inv .3) (omega arith) q))
+    let q : escapeAt (the (tie.Start Inv-loop μ-loop) (search) .args .manner) (drop (l .i + k + 1) s) ≡ none = sym (r .ensures .0) ∙ ap escapeOf (c .enum-told .given .1) in
+    sym (ap measured (read-refused (the (tie.Start Inv-loop μ-loop) (search) .args .manner) s (l .i) k (found f) (l .inv .2) (l .inv .3) (omega arith) q))
 
 -- the escape behind it
 coded :
     (c : tie.After-e Inv-loop μ-loop)
-    → escapeAt (drop (the (tie.At-loop Inv-loop μ-loop) (search) .loop .i + the (tie.After-find-byte Inv-loop μ-loop) (search) .find-byte .result + 1) (the (tie.Start Inv-loop μ-loop) (search) .args .s .now))
+    → escapeAt (the (tie.Start Inv-loop μ-loop) (search) .args .manner) (drop (the (tie.At-loop Inv-loop μ-loop) (search) .loop .i + the (tie.After-find-byte Inv-loop μ-loop) (search) .find-byte .result + 1) (the (tie.Start Inv-loop μ-loop) (search) .args .s .now))
     ≡ some (record { stands = encoding (c .e .given .0 .0); takes = c .e .given .0 .1 .0 })
 coded c = sym (the (tie.After-escape-at Inv-loop μ-loop) (search) .escape-at .ensures .0) ∙ ap escapeOf (c .e .given .1)
 
@@ -84,7 +84,7 @@ ends :
     × (length (encoding (c .e .given .0 .0)) ≤ 1 + c .e .given .0 .1 .0)
 ends c =
     let f : tie.After-find-byte Inv-loop μ-loop = search in
-    escape-within (the (tie.Start Inv-loop μ-loop) (search) .args .s .now) (the (tie.At-loop Inv-loop μ-loop) (search) .loop .i + f .find-byte .result + 1) _ (omega (arith, within f)) (coded c)
+    escape-within (the (tie.Start Inv-loop μ-loop) (search) .args .manner) (the (tie.Start Inv-loop μ-loop) (search) .args .s .now) (the (tie.At-loop Inv-loop μ-loop) (search) .loop .i + f .find-byte .result + 1) _ (omega (arith, within f)) (coded c)
 
 add-n-2 : tie.Need-add-n-2 Inv-loop μ-loop
 add-n-2 c = omega (arith, ends (search), c .code-len .ensures)
@@ -112,7 +112,7 @@ loop-again c =
       b .0,
       omega (arith, c .code-len .ensures),
       (w ++ take k (drop (l .i) s)) ++ encoding g,
-      read-escape s (l .i) k (found f) w (l .inv .3) (omega arith) _ (coded e),
+      read-escape (the (tie.Start Inv-loop μ-loop) (search) .args .manner) s (l .i) k (found f) w (l .inv .3) (omega arith) _ (coded e),
       length-append (w ++ take k (drop (l .i) s)) (encoding g) ∙ omega (arith, l .inv .4, c .code-len .ensures),
     )
 

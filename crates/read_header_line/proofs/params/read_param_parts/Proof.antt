@@ -71,7 +71,7 @@ returns c =
     let parts = the (tie.Start Inv-loop μ-loop) (search) .args .parts .now in
     let l = the (tie.At-loop Inv-loop μ-loop) (search) .loop in
     let k = f .find-byte .result in
-    refused-there parts (l .at) k (found f) (l .inv .3) _ (l .inv .5) (part-is parts (l .at) k) _ _
+    refused-there parts (l .at) k (found f) readParam (l .inv .3) _ (l .inv .5) (part-is parts (l .at) k) _ _
     (the (tie.After-read-param Inv-loop μ-loop) (search) .read-param .ensures (l .inv .3) (l .inv .4)) (c .if1 .taken)
 
 returns-2 : tie.Need-returns-2 Inv-loop μ-loop
@@ -80,7 +80,7 @@ returns-2 c =
     let parts = the (tie.Start Inv-loop μ-loop) (search) .args .parts .now in
     let l = the (tie.At-loop Inv-loop μ-loop) (search) .loop in
     let k = f .find-byte .result in
-    ends-there parts (l .at) k (found f) (l .inv .3) _ (l .inv .5) (part-is parts (l .at) k) _ _
+    ends-there parts (l .at) k (found f) readParam (l .inv .3) _ (l .inv .5) (part-is parts (l .at) k) _ _
     (the (tie.After-read-param Inv-loop μ-loop) (search) .read-param .ensures (l .inv .3) (l .inv .4)) (omega arith)
 
 loop-less : tie.Need-loop-less Inv-loop μ-loop
@@ -93,7 +93,7 @@ loop-again c =
     let l = the (tie.At-loop Inv-loop μ-loop) (search) .loop in
     let k = f .find-byte .result in
     let g =
-    goes-on parts (l .at) k (found f) (l .inv .3) _ (l .inv .5) (part-is parts (l .at) k) _ _
+    goes-on parts (l .at) k (found f) readParam (l .inv .3) _ (l .inv .5) (part-is parts (l .at) k) _ _
     (the (tie.After-read-param Inv-loop μ-loop) (search) .read-param .ensures (l .inv .3) (l .inv .4)) (omega arith) (the (tie.Else1 Inv-loop μ-loop) (search) .if1 .left) in
     (omega arith, omega arith, rest-utf8 parts (l .at) k (found f) (l .inv .2), g .0, g .1, g .2)
 

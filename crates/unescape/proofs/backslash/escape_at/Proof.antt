@@ -10,17 +10,17 @@ use Rattle.unescape.proofs.backslash.escape_at.Tie as tie
 returns : tie.Need-returns
 returns c =
     let args = the tie.Start (search) .args in
-    (sym (at-end (args .s .now) (args .i) (omega arith)), omega arith)
+    (sym (at-end (args .manner) (args .s .now) (args .i) (omega arith)), omega arith)
 
 returns-2 : tie.Need-returns-2
 returns-2 c =
     let args = the tie.Start (search) .args in
-    (c .long-escape .ensures .0 ∙ sym (at-long (args .s .now) (args .i) (omega arith) (the tie.Then2 (search) .if2 .taken)), c .long-escape .ensures .1)
+    (c .long-escape .ensures .0 ∙ sym (at-long (args .manner) (args .s .now) (args .i) (omega arith) (the tie.Then2 (search) .if2 .taken)), c .long-escape .ensures .1)
 
 returns-3 : tie.Need-returns-3
 returns-3 c =
     let args = the tie.Start (search) .args in
-    (c .short-escape .ensures .0 ∙ sym (at-short (args .s .now) (args .i) (omega arith) (the tie.Else2 (search) .if2 .left)), c .short-escape .ensures .1)
+    (c .short-escape .ensures .0 ∙ sym (at-short (args .manner) (args .s .now) (args .i) (omega arith) (the tie.Else2 (search) .if2 .left)), c .short-escape .ensures .1)
 
 pub escape-at-spec : {M : Type 1} → statement M
 escape-at-spec =

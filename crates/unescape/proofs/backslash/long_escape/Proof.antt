@@ -15,14 +15,14 @@ use Rattle.unescape.proofs.backslash.long_escape.Tie as tie
 returns : tie.Need-returns
 returns c =
     let args = the tie.Start (search) .args in
-    (sym (long-few (drop (args .i) (args .s .now)) (simp length-drop (omega arith))), omega arith)
+    (sym (long-few (args .manner) (drop (args .i) (args .s .now)) (simp length-drop (omega arith))), omega arith)
 
 scalar-requires : tie.Need-scalar-requires
 scalar-requires c κs =
     let args = the tie.Start (search) .args in
     let s = args .s .now in
     let i = args .i in
-    omega (arith, four-most (getD s i 0) (getD s (i + 1) 0) (getD s (i + 2) 0) (getD s (i + 3) 0), c .four-digits .ensures)
+    omega (arith, four-most (args .manner) (getD s i 0) (getD s (i + 1) 0) (getD s (i + 2) 0) (getD s (i + 3) 0), c .four-digits .ensures)
 
 returns-2 : tie.Need-returns-2
 returns-2 c =
@@ -31,8 +31,8 @@ returns-2 c =
     let i = args .i in (
       c .scalar .ensures .0
           ∙ ap scalarOf (the tie.After-four-digits (search) .four-digits .ensures)
-          ∙ scalar-four (getD s i 0) (getD s (i + 1) 0) (getD s (i + 2) 0) (getD s (i + 3) 0)
-          ∙ sym (long-four s i (omega arith)),
+          ∙ scalar-four (args .manner) (getD s i 0) (getD s (i + 1) 0) (getD s (i + 2) 0) (getD s (i + 3) 0)
+          ∙ sym (long-four (args .manner) s i (omega arith)),
       c .scalar .ensures .1,
     )
 

@@ -3,6 +3,8 @@ use mathlib.Core.Path.{refl, sym}
 use native.Mathlib.Omega.{arith}
 use Rattle.format.specs.Characters.{encoding}
 use Rattle.format.specs.Escaping.{shortEscape}
+use borrow.Author.Needs.{needs}
+use Rattle.format.proofs.Typed.{the}
 use Rattle.unescape.proofs.Escapes.{short-other}
 use Rattle.unescape.proofs.backslash.short_escape.Statement.{statement}
 use Rattle.unescape.proofs.backslash.short_escape.Tie as tie
@@ -32,10 +34,14 @@ unfolding shortEscape encoding
 returns-6 c = (rw (c .match .keys6) refl, omega arith)
 
 returns-7 : tie.Need-returns-7
-returns-7 c =
+unfolding shortEscape
+returns-7 c = rw (the tie.At-match-keys7 (search) .match .keys7) (c .apostrophe .ensures)
+
+returns-8 : tie.Need-returns-8
+returns-8 c =
     let r = c .match .rest in
-    (sym (short-other _ (r .0 .0 .0 .0 .0 .1) (r .0 .0 .0 .0 .1) (r .0 .0 .0 .1) (r .0 .0 .1) (r .0 .1) (r .1)), omega arith)
+    (sym (short-other _ _ (r .0 .0 .0 .0 .0 .0 .1) (r .0 .0 .0 .0 .0 .1) (r .0 .0 .0 .0 .1) (r .0 .0 .0 .1) (r .0 .0 .1) (r .0 .1) (r .1)), omega arith)
 
 pub short-escape-spec : {M : Type 1} → statement M
 short-escape-spec =
-    tie.close (tie.spec returns returns-2 returns-3 returns-4 returns-5 returns-6 returns-7)
+    tie.close (tie.spec (λ c κs. search needs) returns returns-2 returns-3 returns-4 returns-5 returns-6 returns-7 returns-8)

@@ -11,28 +11,28 @@ returns : tie.Need-returns
 returns c =
     let e : tie.After-digit-value3 = search in
     let a = the tie.Start (search) .args in
-    four-first (a .a) (a .b) (a .c) (a .d) (the tie.After-first-value (search) .first-value .result) (the tie.After-digit-value (search) .digit-value .result) (the tie.After-digit-value2 (search) .digit-value2 .result) (e .digit-value3 .result)
+    four-first (a .manner) (a .a) (a .b) (a .c) (a .d) (the tie.After-first-value (search) .first-value .result) (the tie.After-digit-value (search) .digit-value .result) (the tie.After-digit-value2 (search) .digit-value2 .result) (e .digit-value3 .result)
     (the tie.After-first-value (search) .first-value .ensures) (the tie.After-digit-value (search) .digit-value .ensures) (the tie.After-digit-value2 (search) .digit-value2 .ensures) (e .digit-value3 .ensures) (c .if1 .taken)
 
 returns-2 : tie.Need-returns-2
 returns-2 c =
     let e : tie.After-digit-value3 = search in
     let a = the tie.Start (search) .args in
-    four-second (a .a) (a .b) (a .c) (a .d) (the tie.After-first-value (search) .first-value .result) (the tie.After-digit-value (search) .digit-value .result) (the tie.After-digit-value2 (search) .digit-value2 .result) (e .digit-value3 .result)
+    four-second (a .manner) (a .a) (a .b) (a .c) (a .d) (the tie.After-first-value (search) .first-value .result) (the tie.After-digit-value (search) .digit-value .result) (the tie.After-digit-value2 (search) .digit-value2 .result) (e .digit-value3 .result)
     (the tie.After-first-value (search) .first-value .ensures) (the tie.After-digit-value (search) .digit-value .ensures) (the tie.After-digit-value2 (search) .digit-value2 .ensures) (e .digit-value3 .ensures) (c .if2 .taken)
 
 returns-3 : tie.Need-returns-3
 returns-3 c =
     let e : tie.After-digit-value3 = search in
     let a = the tie.Start (search) .args in
-    four-third (a .a) (a .b) (a .c) (a .d) (the tie.After-first-value (search) .first-value .result) (the tie.After-digit-value (search) .digit-value .result) (the tie.After-digit-value2 (search) .digit-value2 .result) (e .digit-value3 .result)
+    four-third (a .manner) (a .a) (a .b) (a .c) (a .d) (the tie.After-first-value (search) .first-value .result) (the tie.After-digit-value (search) .digit-value .result) (the tie.After-digit-value2 (search) .digit-value2 .result) (e .digit-value3 .result)
     (the tie.After-first-value (search) .first-value .ensures) (the tie.After-digit-value (search) .digit-value .ensures) (the tie.After-digit-value2 (search) .digit-value2 .ensures) (e .digit-value3 .ensures) (c .if3 .taken)
 
 returns-4 : tie.Need-returns-4
 returns-4 c =
     let e : tie.After-digit-value3 = search in
     let a = the tie.Start (search) .args in
-    four-fourth (a .a) (a .b) (a .c) (a .d) (the tie.After-first-value (search) .first-value .result) (the tie.After-digit-value (search) .digit-value .result) (the tie.After-digit-value2 (search) .digit-value2 .result) (e .digit-value3 .result)
+    four-fourth (a .manner) (a .a) (a .b) (a .c) (a .d) (the tie.After-first-value (search) .first-value .result) (the tie.After-digit-value (search) .digit-value .result) (the tie.After-digit-value2 (search) .digit-value2 .result) (e .digit-value3 .result)
     (the tie.After-first-value (search) .first-value .ensures) (the tie.After-digit-value (search) .digit-value .ensures) (the tie.After-digit-value2 (search) .digit-value2 .ensures) (e .digit-value3 .ensures) (c .if4 .taken)
 
 -- each digit is at most 16
@@ -45,7 +45,7 @@ small :
 small c =
     let e : tie.After-digit-value3 = search in
     let a = the tie.Start (search) .args in (
-      omega (arith, first-most (a .a), the tie.After-first-value (search) .first-value .ensures),
+      omega (arith, first-most (a .manner) (a .a), the tie.After-first-value (search) .first-value .ensures),
       omega (arith, digit-most (a .b), the tie.After-digit-value (search) .digit-value .ensures),
       omega (arith, digit-most (a .c), the tie.After-digit-value2 (search) .digit-value2 .ensures),
       omega (arith, digit-most (a .d), e .digit-value3 .ensures),
@@ -73,7 +73,7 @@ returns-5 : tie.Need-returns-5
 returns-5 c =
     let e : tie.After-digit-value3 = search in
     let a = the tie.Start (search) .args in
-    four-all (a .a) (a .b) (a .c) (a .d) (the tie.After-first-value (search) .first-value .result) (the tie.After-digit-value (search) .digit-value .result) (the tie.After-digit-value2 (search) .digit-value2 .result) (e .digit-value3 .result)
+    four-all (a .manner) (a .a) (a .b) (a .c) (a .d) (the tie.After-first-value (search) .first-value .result) (the tie.After-digit-value (search) .digit-value .result) (the tie.After-digit-value2 (search) .digit-value2 .result) (e .digit-value3 .result)
     (the tie.After-first-value (search) .first-value .ensures) (the tie.After-digit-value (search) .digit-value .ensures) (the tie.After-digit-value2 (search) .digit-value2 .ensures) (e .digit-value3 .ensures)
     (the tie.Else1 (search) .if1 .left) (the tie.Else2 (search) .if2 .left) (the tie.Else3 (search) .if3 .left) (c .if4 .left)
 
