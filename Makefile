@@ -20,6 +20,10 @@ prove: rt
 	@echo "Proved, among the rest (crates/format/specs/Demand3.antt):"
 	@echo
 	@sed -n '/^pub record Demand3/,$$p' crates/format/specs/Demand3.antt
+	@echo
+	@echo "And of the second reading (crates/format/specs/SecondReading.antt):"
+	@echo
+	@sed -n '/^pub record SecondReading/,$$p' crates/format/specs/SecondReading.antt
 
 # A first look: the programs, proved with all that they rest on, then run on a notice.
 show: rt
@@ -64,10 +68,10 @@ compare: cargo library gateway notice
 	@cargo run --release $(RUST) --bin texts
 	@cargo run --release $(RUST) --bin gateway
 
-# The gateway's crate by itself: its build script, its tests and the examples in its comments; and the C header.
+# The gateway's crate by itself: its build script, its tests and the examples in its comments; the C header, and header lines by both readings.
 gateway: cargo library
 	@.ci/build-test
-	@for tests in '-p cpim' '-p beside --test c_header'; do \
+	@for tests in '-p cpim' '-p beside --test c_header --test second_reading'; do \
 	  out=$$(cargo test $(RUST) $$tests 2>&1) || { printf '%s\n' "$$out"; exit 1; }; \
 	done
 

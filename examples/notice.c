@@ -1,4 +1,5 @@
-/* Reads a notice, prints who it is from, sets a header, writes it, and finds the body in what was written: C on the functions of crates/cpim/cpim.h. `make compare` runs it. */
+/* Reads a notice, prints who it is from, sets a header, writes it, and finds the body in what was written; then adds a header with a depot code for a
+ * parameter and finds that in what was written, by the second reading: C on the functions of crates/cpim/cpim.h. `make compare` runs it. */
 #include "cpim.h"
 
 #include <stdio.h>
@@ -11,7 +12,7 @@ static const char notice[] =
     "Content-type: text/plain\r\n\r\n"
     "A black umbrella hangs in the sorting room.";
 
-static uint8_t head[1000], body[1000], out[1000];
+static uint8_t head[1000], body[1000], store[100], out[1000];
 
 /* Text as the place and length that a slice crosses as. */
 #define TEXT(s) (const uint8_t *)(s), strlen(s)
@@ -52,5 +53,26 @@ int main(void) {
         return refused("cpim_parse_head", h.number, h.carried);
     if (h.in_text)
         printf("its body: %llu bytes from byte %llu on\n", (unsigned long long)h.message.bodylen, (unsigned long long)h.start);
+
+    /* A parameter is written behind the colon, as RFC 3862 has it, and cpim_parse_rfc looks for it there. */
+    cpim_header_answer_t glove = cpim_header_new(TEXT("Red glove"), store, sizeof store);
+    glove = cpim_header_with_param(glove.header, store, sizeof store, TEXT("depot"), TEXT("north"));
+    if (glove.number != 0)
+        return refused("cpim_header_with_param", glove.number, glove.carried);
+    a = cpim_add_header_obj(h.message, head, sizeof head, TEXT("Item"), glove.header, store, sizeof store);
+    if (a.number != 0)
+        return refused("cpim_add_header_obj", a.number, a.carried);
+    whole = cpim_comes_back_rfc(a.message, head, sizeof head, body, sizeof body);
+    n = cpim_to_string(a.message, head, sizeof head, body, sizeof body, out, sizeof out);
+    if (n.number != 0)
+        return refused("cpim_to_string", n.number, n.carried);
+    a = cpim_parse_rfc(out, n.length, head, sizeof head, body, sizeof body);
+    if (a.number != 0)
+        return refused("cpim_parse_rfc", a.number, a.carried);
+    print_header(a.message, "Item");
+    cpim_pair_t depot = cpim_get_param(a.message, head, sizeof head, TEXT("Item"), 0, 0);
+    if (depot.found)
+        printf("its depot, which %s by the second reading: %.*s\n", whole ? "comes back" : "does not come back", (int)depot.value,
+               (const char *)head + depot.start + depot.name);
     return 0;
 }

@@ -7,7 +7,7 @@
  * more than its message on the way, where a content header is given twice, and 25 says how much, never more than that; a header alone
  * takes 16 and its value, and 16 and its name and value for each parameter. The body stands at the start of its store.
  *
- * number 0: accepted. Any other is a refusal, and nothing is changed (but see cpim_parse and cpim_parse_head):
+ * number 0: accepted. Any other is a refusal, and nothing is changed (but see cpim_parse and the other readings):
  *    1 text too long *              2 fewer than 4 sections        3 no message/cpim              4 header line lacks a colon
  *    5 bad escape                   6 name empty                   7 name too long *              8 ASCII control in name
  *    9 one of : ; = \ " in name    10 value too long *            11 control in content value    12 parameter name empty
@@ -15,6 +15,8 @@
  *   17 content type empty          18 content type too long *     19 control in content type     20 too many headers *
  *   21 too many parameters *       22 too many content headers *  23 body too long *             24 not UTF-8
  *   25 head or header store too short, or nothing held            26 body store or output too short
+ * and by the second reading (cpim_parse_rfc, cpim_parse_head_rfc) alone:
+ *   27 parameter lacks =          28 behind the colon neither a space nor a ; comes first, or no space comes at all
  * carried: the actual length or count for those with a star, the bytes needed for 25 (0: nothing valid is held) and 26, else 0. */
 #ifndef CPIM_H
 #define CPIM_H
@@ -69,8 +71,8 @@ typedef struct {
     size_t length;
 } cpim_length_answer_t;
 
-/* Why a message does not come back from its text, and for which header or content header in map order, counting from 0. Clause 0: it does; 1 no
- * header; 2 a header has a parameter; 3 the body is not UTF-8; 4 a content header is called Content-type; white space at an end of 5 a header name,
+/* Why a message does not come back from its text by cpim_parse, and for which header or content header in map order, counting from 0. Clause 0: it does;
+ * 1 no header; 2 a header has a parameter; 3 the body is not UTF-8; 4 a content header is called Content-type; white space at an end of 5 a header name,
  * 6 a content header's name or value, 7 the content type; 9 nothing is held. 8 is not given: what stands at the
  * ends of a header value is written so that it comes back. */
 typedef struct {
@@ -120,6 +122,16 @@ cpim_answer_t cpim_parse(const uint8_t *text, size_t text_len, uint8_t *head, si
  * false, start 0, and message.bodylen is the length of the body joined, which cpim_read_body writes to a buffer. Calls that only read a body store can be
  * lent the body where it stands. Refused: the empty record, false, 0, and zeros over the head store. */
 cpim_head_answer_t cpim_parse_head(const uint8_t *text, size_t text_len, uint8_t *head, size_t head_len);
+
+/* The second reading: parameters stand where RFC 3862 puts them and where cpim_to_string writes them, as in Subject:;lang=en Hi. A header line is the name
+ * up to the first colon, untrimmed; then parameters, from ; to the first space, parted at ;, each at its first =, untrimmed; that one space; and the value,
+ * which is all that follows, untrimmed. Only U+0020 is the space. Escapes are the RFC's: \' is read, and a plus sign is no digit of \u. A header line 4,
+ * 6 to 9, 28, for each parameter in turn 27, 12 to 16, 21 (even when replacing), then 5, 10, 20, 25. All else, both stores among it, is as by cpim_parse. */
+cpim_answer_t cpim_parse_rfc(const uint8_t *text, size_t text_len, uint8_t *head, size_t head_len, uint8_t *body,
+                             size_t body_len);
+
+/* The second reading, which leaves the body where it stands: as cpim_parse_head is to cpim_parse. */
+cpim_head_answer_t cpim_parse_head_rfc(const uint8_t *text, size_t text_len, uint8_t *head, size_t head_len);
 
 /* The length of a text's body. Under CRLFCRLF the body is the end of the text and the buffer is not used; under LFLF it is written to the buffer's
  * start. 1, 24, 2, 23, 26 (under LFLF only). */
@@ -199,10 +211,14 @@ cpim_message_t cpim_run(const uint8_t *script, size_t script_len, cpim_message_t
 cpim_length_answer_t cpim_to_string(cpim_message_t m, const uint8_t *head, size_t head_len, const uint8_t *body,
                                     size_t body_len, uint8_t *out, size_t out_len);
 
-/* Whether reading its text, with room for it, gives the message held; false where nothing is held. */
+/* Whether reading its text by cpim_parse, with room for it, gives the message held; false where nothing is held. */
 bool cpim_comes_back(cpim_message_t m, const uint8_t *head, size_t head_len, const uint8_t *body, size_t body_len);
 
-/* What is lost first where it does not. */
+/* The same by cpim_parse_rfc. Parameters come back where none of their names and values holds U+0020, and header names whatever their ends are; all else is
+ * asked for as by cpim_comes_back, so what comes back by cpim_parse comes back by cpim_parse_rfc too. */
+bool cpim_comes_back_rfc(cpim_message_t m, const uint8_t *head, size_t head_len, const uint8_t *body, size_t body_len);
+
+/* What is lost first where cpim_comes_back says no. */
 cpim_loss_t cpim_loss(cpim_message_t m, const uint8_t *head, size_t head_len, const uint8_t *body, size_t body_len);
 
 /* A header alone. Refused: the empty record. 24, 10, 25. */

@@ -20,19 +20,34 @@ ghost use Rattle.format.specs.Message.{Message};
 ghost use Rattle.format.specs.Calls.{set-body, set-header, add-header, add-content-header, with-from, with-to, with-datetime, with-subject, with-subject-lang, with-cc, with-ns, with-require, with-content-header};
 ghost use Rattle.format.specs.LookingUp.{findBody, bodyLengthOf, bufferAfter};
 ghost use Rattle.format.specs.Writing.{toText};
+ghost use Rattle.format.specs.ReadingRfc.{readHeaderRfc};
 ghost use Rattle.format.specs.Layout.{emptyMessage, Holds, Held};
-ghost use Rattle.format.specs.Lending.{headLent, bothLent, lengths, numbersOf, headerNumbers, Changed, Made, Parsed, Wrote, MadeHeader, ParamSet, HeaderAdded};
+ghost use Rattle.format.specs.Lending.{headLent, bothLent, lengths, numbersOf, headerNumbers, Changed, Made, ParsedWith, Parsed, Wrote, MadeHeader, ParamSet, HeaderAdded};
 ghost use Rattle.format.specs.Runs.{Run};
 ghost use Rattle.format.specs.Demand3.{after};
 ghost use Rattle.calls_script.specs.Script.{state, callsIn};
-ghost use Rattle.read.specs.Heads.{HeadParsed};
-ghost use Rattle.roundtrip.specs.Loss.{lossHeld, wholeHeld, ReadsBack};
+ghost use Rattle.read.specs.Heads.{HeadParsedWith, HeadParsed};
+ghost use Rattle.roundtrip.specs.Loss.{lossHeld, wholeHeld, wholeHeldRfc, ReadsBack, ReadsBackRfc};
 
 #[no_mangle]
 pub extern "C" fn cpim_parse(text: &[u8], head: &mut [u8], body: &mut [u8]) -> Answer
     ensures { λ r. ⌜ Parsed (now (text .entry)) (bothLent emptyMessage (now (head .entry)) (now (body .entry))) (bothLent (r .message) (now (head .exit)) (now (body .exit))) (numbersOf r) ⌝ }
 {
     read::parse_cpim(text, head, body)
+}
+
+#[no_mangle]
+pub extern "C" fn cpim_parse_rfc(text: &[u8], head: &mut [u8], body: &mut [u8]) -> Answer
+    ensures { λ r. ⌜ ParsedWith readHeaderRfc (now (text .entry)) (bothLent emptyMessage (now (head .entry)) (now (body .entry))) (bothLent (r .message) (now (head .exit)) (now (body .exit))) (numbersOf r) ⌝ }
+{
+    read::parse_cpim_rfc(text, head, body)
+}
+
+#[no_mangle]
+pub extern "C" fn cpim_parse_head_rfc(text: &[u8], head: &mut [u8]) -> HeadAnswer
+    ensures { λ r. ⌜ HeadParsedWith readHeaderRfc (now (text .entry)) (headLent emptyMessage (now (head .entry))) (headLent (r .message) (now (head .exit))) r ⌝ }
+{
+    read::parse_head_rfc(text, head)
 }
 
 #[no_mangle]
@@ -233,7 +248,16 @@ pub extern "C" fn cpim_comes_back(m: CpimMessage, head: &[u8], body: &[u8]) -> b
     roundtrip::comes_back(m, head, body)
 }
 
-// Where it does not: the clause of demand 3 that fails first, and for which entry.
+// Whether the second reading of its text does.
+#[no_mangle]
+pub extern "C" fn cpim_comes_back_rfc(m: CpimMessage, head: &[u8], body: &[u8]) -> bool
+    ensures condition { λ r. ⌜ ((o : Option Message) → Held (bothLent m (now (head .entry)) (now (body .entry))) o → r ≡ wholeHeldRfc o) ⌝ }
+    ensures theorem { λ r. ⌜ ReadsBackRfc (bothLent m (now (head .entry)) (now (body .entry))) r ⌝ }
+{
+    roundtrip::comes_back_rfc(m, head, body)
+}
+
+// Where the first reading does not: the clause of demand 3 that fails first, and for which entry.
 #[no_mangle]
 pub extern "C" fn cpim_loss(m: CpimMessage, head: &[u8], body: &[u8]) -> Loss
     ensures { λ r. ⌜ ((o : Option Message) → Held (bothLent m (now (head .entry)) (now (body .entry))) o → r ≡ lossHeld o) ⌝ }

@@ -9,5 +9,8 @@ pub mod Escaping
 pub mod Splitting
 pub mod Messages
 pub mod Texts
+pub mod Begun
+pub mod Exact
 pub mod Demand3
+pub mod SecondReading
 pub mod Computing

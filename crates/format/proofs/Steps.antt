@@ -8,7 +8,7 @@ use native.Mathlib.Omega.{arith}
 use lib.Dec.{leb, eqb}
 use borrow.Author.Tests.{leb-true, le-leb, ne-eqb, not-false}
 use Rattle.format.specs.Bytes.{if_then_else_, all}
-use Rattle.format.specs.Refusals.{Refusal, textTooLong, tooFewSections, noMessageCpim, lacksColon, badEscape, nameEmpty, nameTooLong, nameControl, nameReserved, valueTooLong, contentControl, paramNameEmpty, paramNameTooLong, paramNameReserved, paramValueTooLong, paramValueReserved, typeEmpty, typeTooLong, typeControl, tooManyHeaders, tooManyParams, tooManyContents, bodyTooLong, notUtf8, noRoom, tooShort, table, Out, accepted, refused, numbers, Check, refuseIf, atMost, passes, _>>_, _>>=_}
+use Rattle.format.specs.Refusals.{Refusal, textTooLong, tooFewSections, noMessageCpim, lacksColon, badEscape, nameEmpty, nameTooLong, nameControl, nameReserved, valueTooLong, contentControl, paramNameEmpty, paramNameTooLong, paramNameReserved, paramValueTooLong, paramValueReserved, typeEmpty, typeTooLong, typeControl, tooManyHeaders, tooManyParams, tooManyContents, bodyTooLong, notUtf8, noRoom, tooShort, paramLacksEquals, lacksSpace, table, Out, accepted, refused, numbers, Check, refuseIf, atMost, passes, _>>_, _>>=_}
 use Rattle.format.specs.Reading.{each}
 use Rattle.format.proofs.Lists.{all-head, all-tail}
 
@@ -119,6 +119,8 @@ refused-number (bodyTooLong n) h = omega arith
 refused-number notUtf8 h = omega arith
 refused-number (noRoom n) h = omega arith
 refused-number (tooShort n) h = omega arith
+refused-number paramLacksEquals h = omega arith
+refused-number lacksSpace h = omega arith
 
 -- a check passes where its number is 0
 pub passes-number : (c : Check) → eqb (numbers c .number) 0 ≡ passes c

@@ -9,3 +9,6 @@ pub mod ReadOver
 pub mod Headless
 pub mod OnlyIf
 pub mod SourceRoundTrip
+pub mod RfcParams
+pub mod RfcLine
+pub mod RfcRoundTrip

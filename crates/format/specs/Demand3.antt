@@ -1,4 +1,4 @@
--- Demand 3: for every list of changing calls begun by an accepted `new` or `parse_cpim`, the message held is the one that the calls define,
+-- Demand 3: for every list of changing calls begun by an accepted `new` or reading, the message held is the one that the calls define,
 -- and its text reads back as it exactly under a stated condition. Proved as `demand-3` in proofs/Demand3.antt. Assumes nothing.
 use Prim.Native.Nat.{_≤_}
 use mathlib.Core.Path.{_≡_}
@@ -13,11 +13,13 @@ use Rattle.format.specs.Refusals.{Out, accepted, refused, _carrying_}
 use Rattle.format.specs.Message.{Entry, Header, Message, need, validAlone, valid}
 use Rattle.format.specs.Calls.{Stores, Call, Lends, body-store, header-store, head-alone, lends, answer, new}
 use Rattle.format.specs.Writing.{write}
-use Rattle.format.specs.Reading.{read}
+use Rattle.format.specs.Reading.{readWith, read}
+use Rattle.format.specs.ReadingRfc.{lineReader}
 use Rattle.format.specs.Layout.{Lent, Holds}
-use Rattle.format.specs.Lending.{lengths, Made, Parsed, Wrote}
+use Rattle.format.specs.Lending.{lengths, Made, ParsedWith, Parsed, Wrote}
 use Rattle.format.specs.Runs.{State, lend, Run}
 use Rattle.format.specs.declared.Numbers.{Numbers}
+use Rattle.format.specs.declared.Manner.{Manner}
 
 -- The condition, clause by clause.
 
@@ -76,7 +78,7 @@ holdsHeader c = headerValid (lends c)
 abbrev pub RoomFor : Message → Stores → Type 0
 RoomFor m stores = (need m ≤ stores .head) × (length (m .body) ≤ stores .body)
 
--- How a list begins: an accepted `new` or `parse_cpim`, lent stores of these lengths, left the state s and defines m.
+-- How a list begins: an accepted `new`, `parse_cpim` or `parse_cpim_rfc`, lent stores of these lengths, left the state s and defines m.
 pub data Begun (stores : Stores) (s : State) (m : Message) : Type 0 where
   by-new :
       (t b : Bytes) (l : Lent) (n : Numbers) →
@@ -85,10 +87,10 @@ pub data Begun (stores : Stores) (s : State) (m : Message) : Type 0 where
       new t b stores ≡ accepted m →
       Begun stores s m
   by-reading :
-      (t : Bytes) (l : Lent) (n : Numbers) →
-      Parsed t l (lend true s) n →
+      (r : Manner) (t : Bytes) (l : Lent) (n : Numbers) →
+      ParsedWith (lineReader r) t l (lend true s) n →
       stores ≡ lengths l →
-      read t stores ≡ accepted m →
+      readWith (lineReader r) t stores ≡ accepted m →
       Begun stores s m
 
 -- A list of changing calls, begun so, has led to the state t, and the message that it defines is m.

@@ -9,9 +9,11 @@ pub mod Message
 pub mod Calls
 pub mod Writing
 pub mod Reading
+pub mod ReadingRfc
 pub mod LookingUp
 pub mod Showing
 pub mod Layout
 pub mod Lending
 pub mod Runs
 pub mod Demand3
+pub mod SecondReading

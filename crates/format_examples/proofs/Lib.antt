@@ -2,4 +2,5 @@
 mod Specimens
 mod ValueEnds
 mod Refusing
+mod SecondLines
 mod Rules

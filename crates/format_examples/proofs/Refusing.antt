@@ -46,6 +46,8 @@ refusal-examples =
       row24 = refl;
       row25 = refl;
       row26 = refl;
+      row27 = refl;
+      row28 = refl;
       unheld = refl;
     }
 

@@ -2,4 +2,5 @@
 pub mod Specimens
 pub mod ValueEnds
 pub mod Refusing
+pub mod SecondLines
 pub mod Rules

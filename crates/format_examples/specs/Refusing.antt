@@ -1,4 +1,4 @@
--- Document 01, "Refusals by number": the example of each row of the table, and the limits at and one past; proved in proofs/Refusing.antt. Assumes nothing.
+-- Document 01, "Refusals by number": the example of each row of the table, document 02's two with them, and the limits at and one past; proved in proofs/Refusing.antt. Assumes nothing.
 use Prim.Native.Nat.{ℕ}
 use mathlib.Core.Path.{_≡_}
 use mathlib.Core.List.{List, [], _∷_, _++_}
@@ -12,6 +12,7 @@ use Rattle.format.specs.Message.{Entry, entry, LoneHeader, Message}
 use Rattle.format.specs.Calls.{Stores, new, addHeader, setHeader, addParam, setBody, answer, add-header, withParam}
 use Rattle.format.specs.Writing.{toText}
 use Rattle.format.specs.Reading.{read}
+use Rattle.format.specs.ReadingRfc.{readHeaderRfc}
 use Rattle.format_examples.specs.Specimens.{roomy, single}
 
 -- a text with this header line and this content line
@@ -74,6 +75,9 @@ pub record RefusalExamples : Type 0 where
   pub row24 : numbers (read (255 ∷ []) roomy) ≡ 24 carrying 0
   pub row25 : numbers (new (ascii "text/plain") [] (record { head = 255; body = 0 })) ≡ 25 carrying 256
   pub row26 : numbers (toText (some (single (ascii "To") (ascii "a") [])) 0) ≡ 26 carrying 69
+  -- document 02, T-01
+  pub row27 : numbers (readHeaderRfc (ascii "To:;a b")) ≡ 27 carrying 0
+  pub row28 : numbers (readHeaderRfc (ascii "To:a")) ≡ 28 carrying 0
   -- a message that is not held: 25 carrying 0, ahead of 24
   pub unheld : numbers (answer (add-header (255 ∷ []) []) roomy none) ≡ 25 carrying 0
 

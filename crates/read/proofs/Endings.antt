@@ -1,4 +1,4 @@
--- What `parse_head` and `parse_cpim` ensure, by what reading has done in the head store. Assumes nothing.
+-- What `parse_head` and `parse_cpim` ensure, by what reading has done in the head store, for any reader of a header line. Assumes nothing.
 use Prim.Native.Nat.{ℕ, _-_, _≤_, _<_}
 use mathlib.Core.Path.{_≡_, refl, sym, ap, subst, _∙_}
 use mathlib.Core.Bool.{Bool, true, false, true≢false}
@@ -8,12 +8,12 @@ use lib.ListN.{length, drop, length-drop}
 use Rattle.format.specs.Bytes.{Bytes, if_then_else_, over}
 use Rattle.format.specs.Limits.{maxBody}
 use Rattle.format.specs.Refusals.{Refusal, Out, accepted, refused, numbers, _>>_, _>>=_}
-use Rattle.format.specs.Message.{Message}
+use Rattle.format.specs.Message.{Header, Message}
 use Rattle.format.specs.Calls.{enough, bodyLength, setBody, withBody}
-use Rattle.format.specs.Reading.{readHeader, Parts, textParts, readParts, readWith, read}
+use Rattle.format.specs.Reading.{Parts, textParts, readParts, readWith}
 use Rattle.format.specs.LookingUp.{inText}
 use Rattle.format.specs.Layout.{Lent, recordOf, emptyMessage}
-use Rattle.format.specs.Lending.{headLent, bothLent, lengthOf, lengths, numbersOf, zeroed, ReadInto, ReadLeaves, Parsed}
+use Rattle.format.specs.Lending.{headLent, bothLent, lengthOf, lengths, numbersOf, zeroed, ReadInto, ReadLeaves, ParsedWith}
 use Rattle.format.specs.declared.Numbers.{Numbers}
 use Rattle.format.specs.declared.CpimMessage.{CpimMessage}
 use Rattle.format.specs.declared.Answer.{Answer}
@@ -23,20 +23,20 @@ use Rattle.format.proofs.Answers.{space-short, space-enough}
 use Rattle.sections.proofs.Joining.{body-crlf}
 use Rattle.read_split.specs.TextJudged.{bodyBehind}
 use Rattle.read.specs.declared.HeadAnswer.{HeadAnswer}
-use Rattle.read.specs.Heads.{anyBody, readHead, headNumbers, standsIn, startOf, HeadParsed}
+use Rattle.read.specs.Heads.{anyBody, readHeadWith, headNumbers, standsIn, startOf, HeadParsedWith}
 use Rattle.read.specs.Outcome.{ReadBy, BodyStands}
 use Rattle.read.proofs.LinesLoop.{zero-accepted, other-refused}
 use Rattle.read.proofs.Outcomes.{by-refused, by-passed, by-stopped, by-went, by-accepted}
 use Rattle.read.proofs.HeadFirst.{fits, head-first}
 
-module _ (t : Bytes) (head : ℕ) where
+module _ (reader : Bytes → Out Header) (t : Bytes) (head : ℕ) where
   -- a text that is refused is not read
-  pub text-refused : (r : Refusal) → textParts t ≡ refused r → readHead t head ≡ refused r
-  unfolding readHead readWith _>>=_
+  pub text-refused : (r : Refusal) → textParts t ≡ refused r → readHeadWith reader t head ≡ refused r
+  unfolding readHeadWith readWith _>>=_
   text-refused r e = rw e refl
 
   -- what is read has the body of the text's parts, which is no longer than a body may be
-  read-bodied : (p : Parts) (m : Message) → readParts readHeader p (anyBody head) ≡ accepted m → (m .body ≡ p .body) × (length (p .body) ≤ maxBody)
+  read-bodied : (p : Parts) (m : Message) → readParts reader p (anyBody head) ≡ accepted m → (m .body ≡ p .body) × (length (p .body) ≤ maxBody)
   unfolding readParts setBody bodyLength
   read-bodied p m h =
       let headers = bind-accepted _ _ m (then-accepted _ _ m (then-accepted _ _ m h .0) .0) in
@@ -44,12 +44,12 @@ module _ (t : Bytes) (head : ℕ) where
       let short = then-accepted _ _ m (contents .2) in
       (sym (ap (λ (x : Message). x .body) (accepted-same (withBody (contents .0) (p .body)) m (then-accepted _ _ m (short .0) .0))), simp checks at (short .1))
 
-  pub body-read : (p : Parts) → textParts t ≡ accepted p → (m : Message) → readHead t head ≡ accepted m → m .body ≡ p .body
-  unfolding readHead readWith
-  body-read p e m h = read-bodied p m (sym (bind-passed (textParts t) (λ q. readParts readHeader q (anyBody head)) p e) ∙ h) .0
+  pub body-read : (p : Parts) → textParts t ≡ accepted p → (m : Message) → readHeadWith reader t head ≡ accepted m → m .body ≡ p .body
+  unfolding readHeadWith readWith
+  body-read p e m h = read-bodied p m (sym (bind-passed (textParts t) (λ q. readParts reader q (anyBody head)) p e) ∙ h) .0
 
-  pub body-short : (m : Message) → readHead t head ≡ accepted m → length (m .body) ≤ maxBody
-  unfolding readHead readWith
+  pub body-short : (m : Message) → readHeadWith reader t head ≡ accepted m → length (m .body) ≤ maxBody
+  unfolding readHeadWith readWith
   body-short m h =
       let parts = bind-accepted (textParts t) _ m h in
       let body = read-bodied (parts .0) m (parts .2) in
@@ -68,14 +68,14 @@ pub zeros-left : (m : CpimMessage) (head body after kept : Bytes) → m ≡ empt
 zeros-left m head body after kept e f g = λ i. record { message = e i; head = f i; body = some (g i) }
 
 -- What reading has done in the head store: j is what is left, n what is answered.
-module _ (t head : Bytes) (j : Lent) (n : Numbers) (d : ReadBy (headLent emptyMessage head) j n (readHead t (length head))) where
+module _ (reader : Bytes → Out Header) (t head : Bytes) (j : Lent) (n : Numbers) (d : ReadBy (headLent emptyMessage head) j n (readHeadWith reader t (length head))) where
   -- `parse_head`, refused
   pub head-refused : (n .number ≡ 0 → ⊥) → (r : HeadAnswer) (after : Bytes)
       → r ≡ record { number = n .number; carried = n .carried; message = emptyMessage; «in_text» = false; start = 0 } → after ≡ zeroed head
-      → HeadParsed t (headLent emptyMessage head) (headLent (r .message) after) r
+      → HeadParsedWith reader t (headLent emptyMessage head) (headLent (r .message) after) r
   unfolding standsIn startOf
   head-refused z r after e f =
-      let o = other-refused (readHead t (length head)) n (d .answered) z in
+      let o = other-refused (readHeadWith reader t (length head)) n (d .answered) z in
       record {
         answered = ap headNumbers e ∙ d .answered;
         left = subst (ReadLeaves (headLent emptyMessage head) (headLent (r .message) after)) (sym (o .1)) (λ i. headLent (e i .message) (f i));
@@ -87,11 +87,11 @@ module _ (t head : Bytes) (j : Lent) (n : Numbers) (d : ReadBy (headLent emptyMe
   module _ (z : n .number ≡ 0) where
     -- what is read
     message-is : Message
-    message-is = zero-accepted (readHead t (length head)) n (d .answered) z .0
+    message-is = zero-accepted (readHeadWith reader t (length head)) n (d .answered) z .0
 
-    is-read : readHead t (length head) ≡ accepted message-is
+    is-read : readHeadWith reader t (length head) ≡ accepted message-is
     unfolding message-is
-    is-read = zero-accepted (readHead t (length head)) n (d .answered) z .1
+    is-read = zero-accepted (readHeadWith reader t (length head)) n (d .answered) z .1
 
     into : ReadInto (headLent emptyMessage head) j message-is
     into = d .left message-is is-read
@@ -101,9 +101,9 @@ module _ (t head : Bytes) (j : Lent) (n : Numbers) (d : ReadBy (headLent emptyMe
     body-size = ap (λ (x : CpimMessage). x .bodylen) (into .recorded)
 
     -- `parse_head`, accepted: by whether the body stands in the text
-    module _ (inside : Bool) (start : ℕ) (stands : (m : Message) → readHead t (length head) ≡ accepted m → BodyStands t inside start (m .body)) where
+    module _ (inside : Bool) (start : ℕ) (stands : (m : Message) → readHeadWith reader t (length head) ≡ accepted m → BodyStands t inside start (m .body)) where
       pub head-inside : (r : HeadAnswer) (after : Bytes) → j ≡ headLent (r .message) after → n ≡ headNumbers r → r .«in_text» ≡ inside → r .start ≡ start
-          → inside ≡ true → HeadParsed t (headLent emptyMessage head) (headLent (r .message) after) r
+          → inside ≡ true → HeadParsedWith reader t (headLent emptyMessage head) (headLent (r .message) after) r
       unfolding standsIn startOf
       head-inside r after k a e f h =
           let s = stands message-is is-read in
@@ -125,7 +125,7 @@ module _ (t head : Bytes) (j : Lent) (n : Numbers) (d : ReadBy (headLent emptyMe
       body-room n h = let s = stands message-is is-read in (s .within, omega (arith, body-size, ap length (s .behind)))
 
       pub head-outside : (r : HeadAnswer) (after : Bytes) → j ≡ headLent (r .message) after → headNumbers r ≡ record { number = 0; carried = 0 }
-          → r .«in_text» ≡ false → r .start ≡ 0 → inside ≡ false → HeadParsed t (headLent emptyMessage head) (headLent (r .message) after) r
+          → r .«in_text» ≡ false → r .start ≡ 0 → inside ≡ false → HeadParsedWith reader t (headLent emptyMessage head) (headLent (r .message) after) r
       unfolding standsIn startOf numbers
       head-outside r after k a e f h =
           let s = stands message-is is-read in
@@ -140,53 +140,53 @@ module _ (t head : Bytes) (j : Lent) (n : Numbers) (d : ReadBy (headLent emptyMe
 
   -- `parse_cpim`: the body store, too, is lent
   module _ (body : Bytes) where
-    by-head : (k : Lent) (i : Numbers) → ReadBy (bothLent emptyMessage head body) k i (_>>=_ (readHead t (length head)) (fits (length body)))
-        → ReadBy (bothLent emptyMessage head body) k i (read t (lengths (bothLent emptyMessage head body)))
+    by-head : (k : Lent) (i : Numbers) → ReadBy (bothLent emptyMessage head body) k i (_>>=_ (readHeadWith reader t (length head)) (fits (length body)))
+        → ReadBy (bothLent emptyMessage head body) k i (readWith reader t (lengths (bothLent emptyMessage head body)))
     unfolding lengths lengthOf
-    by-head k i = subst (ReadBy (bothLent emptyMessage head body) k i) (sym (head-first (lengths (bothLent emptyMessage head body)) t))
+    by-head k i = subst (ReadBy (bothLent emptyMessage head body) k i) (sym (head-first reader (lengths (bothLent emptyMessage head body)) t))
 
     -- a refusal leaves zeros
-    zeros-parsed : (i : Numbers) (k : Lent) → ReadBy (bothLent emptyMessage head body) k i (read t (lengths (bothLent emptyMessage head body)))
+    zeros-parsed : (i : Numbers) (k : Lent) → ReadBy (bothLent emptyMessage head body) k i (readWith reader t (lengths (bothLent emptyMessage head body)))
         → (i .number ≡ 0 → ⊥) → k ≡ record { message = emptyMessage; head = zeroed head; body = some (zeroed body) }
-        → Parsed t (bothLent emptyMessage head body) k i
+        → ParsedWith reader t (bothLent emptyMessage head body) k i
     zeros-parsed i k b z f =
-        let o = other-refused (read t (lengths (bothLent emptyMessage head body))) i (b .answered) z in
+        let o = other-refused (readWith reader t (lengths (bothLent emptyMessage head body))) i (b .answered) z in
         record { answered = b .answered; left = subst (ReadLeaves (bothLent emptyMessage head body) k) (sym (o .1)) f }
 
     pub whole-refused : (n .number ≡ 0 → ⊥) → (k : Lent) (i : Numbers) → i ≡ n
-        → k ≡ record { message = emptyMessage; head = zeroed head; body = some (zeroed body) } → Parsed t (bothLent emptyMessage head body) k i
+        → k ≡ record { message = emptyMessage; head = zeroed head; body = some (zeroed body) } → ParsedWith reader t (bothLent emptyMessage head body) k i
     whole-refused z k i e =
-        zeros-parsed i k (by-head k i (by-stopped _ _ _ (readHead t (length head)) _ (e ∙ d .answered) (λ y. z (ap (λ (x : Numbers). x .number) (sym e) ∙ y))))
+        zeros-parsed i k (by-head k i (by-stopped _ _ _ (readHeadWith reader t (length head)) _ (e ∙ d .answered) (λ y. z (ap (λ (x : Numbers). x .number) (sym e) ∙ y))))
         (λ y. z (ap (λ (x : Numbers). x .number) (sym e) ∙ y))
 
     module _ (z : n .number ≡ 0) where
       -- 26
       pub whole-short : length body < j .message .bodylen → (k : Lent) (i : Numbers)
           → i ≡ record { number = 26; carried = j .message .bodylen } → k ≡ record { message = emptyMessage; head = zeroed head; body = some (zeroed body) }
-          → Parsed t (bothLent emptyMessage head body) k i
+          → ParsedWith reader t (bothLent emptyMessage head body) k i
       unfolding fits
       whole-short h k i e =
           zeros-parsed i k
           (by-head k i
-          (by-went _ _ _ (readHead t (length head)) (fits (length body)) (message-is z) (is-read z)
+          (by-went _ _ _ (readHeadWith reader t (length head)) (fits (length body)) (message-is z) (is-read z)
           (by-refused _ _ _ (enough (length body) (length (message-is z .body))) _
-          (e ∙ ap (λ (x : ℕ). record { number = 26; carried = x }) (body-size z) ∙ space-short (length body) (length (message-is z .body)) (omega (arith, body-size z)) (omega (arith, body-short t (length head) (message-is z) (is-read z))))
+          (e ∙ ap (λ (x : ℕ). record { number = 26; carried = x }) (body-size z) ∙ space-short (length body) (length (message-is z .body)) (omega (arith, body-size z)) (omega (arith, body-short reader t (length head) (message-is z) (is-read z))))
           other))) other
         where
           other : i .number ≡ 0 → ⊥
           other y = let q : _≡_ {A = ℕ} 26 0 = ap (λ (x : Numbers). x .number) (sym e) ∙ y in omega arith
 
       pub whole-stored : j .message .bodylen ≤ length body → (k : Lent) (i : Numbers) (after : Bytes) → i ≡ record { number = 0; carried = 0 }
-          → k ≡ bothLent (j .message) (j .head) after → ((m : Message) → readHead t (length head) ≡ accepted m → after ≡ over (m .body) body)
-          → Parsed t (bothLent emptyMessage head body) k i
+          → k ≡ bothLent (j .message) (j .head) after → ((m : Message) → readHeadWith reader t (length head) ≡ accepted m → after ≡ over (m .body) body)
+          → ParsedWith reader t (bothLent emptyMessage head body) k i
       unfolding fits
       whole-stored h k i after e f stored =
           let b =
           by-head k i
-          (by-went _ _ _ (readHead t (length head)) (fits (length body)) (message-is z) (is-read z)
+          (by-went _ _ _ (readHeadWith reader t (length head)) (fits (length body)) (message-is z) (is-read z)
           (by-passed _ _ _ (enough (length body) (length (message-is z .body))) _ (space-enough (length body) (length (message-is z .body)) (omega (arith, body-size z)))
           (by-accepted _ _ _ (message-is z) e
           (subst (λ (x : Lent). ReadInto (bothLent emptyMessage head body) x (message-is z)) (sym f)
           (record { recorded = into z .recorded; laid = into z .laid; kept = into z .kept; stored = ap some (stored (message-is z) (is-read z)) }))))) in
-          let o = zero-accepted (read t (lengths (bothLent emptyMessage head body))) i (b .answered) (ap (λ (x : Numbers). x .number) e) in
+          let o = zero-accepted (readWith reader t (lengths (bothLent emptyMessage head body))) i (b .answered) (ap (λ (x : Numbers). x .number) e) in
           record { answered = b .answered; left = subst (ReadLeaves (bothLent emptyMessage head body) k) (sym (o .1)) (b .left (o .0) (o .1)) }

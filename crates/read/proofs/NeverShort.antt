@@ -1,4 +1,5 @@
--- 26 never comes of a reading with room for every body: only the last check could refuse by it, and 23 comes before it. Assumes nothing.
+-- 26 never comes of a reading with room for every body, by either reader of a header line: only the last check could refuse by it, and 23
+-- comes before it. Assumes nothing.
 use Prim.Native.Nat.{ℕ}
 use mathlib.Core.Path.{_≡_, refl, sym, ap, _∙_}
 use mathlib.Core.Bool.{Bool, true, false, true≢false}
@@ -10,15 +11,18 @@ use borrow.Author.Tests.{eq-eqb}
 use Rattle.format.specs.Bytes.{isEmpty, Bytes, ascii, if_then_else_, colon, equals, has, upTo, past, sameLetters}
 use Rattle.format.specs.Characters.{trim}
 use Rattle.format.specs.Limits.{maxBody}
-use Rattle.format.specs.Refusals.{Refusal, textTooLong, noMessageCpim, lacksColon, nameEmpty, nameTooLong, nameControl, nameReserved, valueTooLong, contentControl, paramNameEmpty, paramNameTooLong, paramNameReserved, paramValueTooLong, paramValueReserved, typeEmpty, typeTooLong, typeControl, tooManyHeaders, tooManyParams, tooManyContents, bodyTooLong, notUtf8, noRoom, table, Out, accepted, refused, numbers, Check, refuseIf, atMost, passes, _>>_, _>>=_}
+use Rattle.format.specs.Refusals.{Refusal, textTooLong, noMessageCpim, lacksColon, nameEmpty, nameTooLong, nameControl, nameReserved, valueTooLong, contentControl, paramNameEmpty, paramNameTooLong, paramNameReserved, paramValueTooLong, paramValueReserved, typeEmpty, typeTooLong, typeControl, tooManyHeaders, tooManyParams, tooManyContents, bodyTooLong, notUtf8, noRoom, paramLacksEquals, lacksSpace, table, Out, accepted, refused, numbers, Check, refuseIf, atMost, passes, _>>_, _>>=_}
 use Rattle.format.specs.Validators.{headerName, headerValue, contentValue, paramName, paramValue, contentType, utf8}
-use Rattle.format.specs.Message.{Entry, Message}
+use Rattle.format.specs.Message.{Entry, Header, Message}
 use Rattle.format.specs.Calls.{Stores, room, enough, bodyLength, headerCount, paramCount, contentCount, ifRoom, setParam, append, addContentHeader, setBody}
 use Rattle.format.specs.Reading.{each, readParam, checkedValue, readValue, readNameAndValue, readHeader, readType, readNamed, readContentLine, Parts, partsOf, textParts, readLine, readHeaderLine, readParts, readWith}
+use Rattle.format.specs.ReadingRfc.{readParamRfc, readRight, readHeaderRfc, lineReader}
+use Rattle.format.specs.declared.Manner.{Manner}
+use Rattle.format.specs.declared.Manner.the-variants.{Source, Rfc}
 use Rattle.format.proofs.Steps.{then-passed}
 use Rattle.format.proofs.Answers.{space-enough}
 use Rattle.format.proofs.Rulesets.{checks}
-use Rattle.read.specs.Heads.{anyBody, readHead}
+use Rattle.read.specs.Heads.{anyBody, readHeadWith}
 
 -- whether an answer is 26
 unfoldable isShort : {A : Type 0} → Out A → Bool
@@ -114,11 +118,21 @@ header-long l =
     then-long _ _ (refuse-long _ lacksColon refl)
     (then-long _ _ (name-long _) (bind-long _ _ (each-long readParam param-long _ []) (λ ps. bind-long _ _ (checked-long _) (λ v. accepted-long _))))
 
-header-line-long : (st : Stores) (l : Bytes) (m : Message) → isShort (readHeaderLine readHeader st l m) ≡ false
-unfolding readHeaderLine readLine append headerCount table
-header-line-long st l m =
-    if-long (isEmpty l) _ _ (accepted-long m)
-    (bind-long _ _ (header-long l) (λ h. then-long _ _ (most-long _ tooManyHeaders _ refl) (if-room-long _ _)))
+param-rfc-long : (part : Bytes) (ps : List Entry) → isShort (readParamRfc part ps) ≡ false
+unfolding readParamRfc table
+param-rfc-long part ps = then-long _ _ (refuse-long _ paramLacksEquals refl) (set-param-long (upTo equals part) (past equals part) ps)
+
+header-rfc-long : (l : Bytes) → isShort (readHeaderRfc l) ≡ false
+unfolding readHeaderRfc readRight table
+header-rfc-long l =
+    then-long _ _ (refuse-long _ lacksColon refl)
+    (then-long _ _ (name-long _)
+    (then-long _ _ (refuse-long _ lacksSpace refl)
+    (bind-long _ _ (each-long readParamRfc param-rfc-long _ []) (λ ps. bind-long _ _ (checked-long _) (λ v. accepted-long _)))))
+
+reader-long : (r : Manner) (l : Bytes) → isShort (lineReader r l) ≡ false
+reader-long Source = header-long
+reader-long Rfc = header-rfc-long
 
 content-line-long : (st : Stores) (l : Bytes) (m : Message) → isShort (readContentLine st l m) ≡ false
 unfolding readContentLine readNamed readType addContentHeader contentCount table
@@ -147,20 +161,30 @@ parts-of-long (a ∷ b ∷ []) = refl
 parts-of-long (a ∷ b ∷ c ∷ []) = refl
 parts-of-long (a ∷ b ∷ c ∷ d ∷ rest) = refl
 
-parts-long : (p : Parts) (head : ℕ) → isShort (readParts readHeader p (anyBody head)) ≡ false
-unfolding readParts table
-parts-long p head =
-    then-long _ _ (refuse-long _ noMessageCpim refl)
-    (then-long _ _ (room-long _ _)
-    (bind-long _ _ (each-long _ (header-line-long (anyBody head)) _ _)
-    (λ m. bind-long _ _ (each-long _ (content-line-long (anyBody head)) _ m) (body-long (p .body) head))))
-
 text-long : (t : Bytes) → isShort (textParts t) ≡ false
 unfolding textParts utf8 table
 text-long t = then-long _ _ (most-long _ textTooLong _ refl) (then-long _ _ (refuse-long _ notUtf8 refl) (parts-of-long _))
 
-pub never-short : (t : Bytes) (head : ℕ) → numbers (readHead t head) .number ≡ 26 → ⊥
-unfolding readHead readWith isShort
-never-short t head e =
-    let no : isShort (readHead t head) ≡ false = bind-long (textParts t) _ (text-long t) (λ p. parts-long p head) in
-    absurd (true≢false (sym (eq-eqb _ 26 e) ∙ no))
+-- The whole reading, by a reader that never answers 26.
+module _ (reader : Bytes → Out Header) (long : (l : Bytes) → isShort (reader l) ≡ false) where
+  header-line-long : (st : Stores) (l : Bytes) (m : Message) → isShort (readHeaderLine reader st l m) ≡ false
+  unfolding readHeaderLine readLine append headerCount table
+  header-line-long st l m =
+      if-long (isEmpty l) _ _ (accepted-long m)
+      (bind-long _ _ (long l) (λ h. then-long _ _ (most-long _ tooManyHeaders _ refl) (if-room-long _ _)))
+
+  parts-long : (p : Parts) (head : ℕ) → isShort (readParts reader p (anyBody head)) ≡ false
+  unfolding readParts table
+  parts-long p head =
+      then-long _ _ (refuse-long _ noMessageCpim refl)
+      (then-long _ _ (room-long _ _)
+      (bind-long _ _ (each-long _ (header-line-long (anyBody head)) _ _)
+      (λ m. bind-long _ _ (each-long _ (content-line-long (anyBody head)) _ m) (body-long (p .body) head))))
+
+  reading-long : (t : Bytes) (head : ℕ) → isShort (readHeadWith reader t head) ≡ false
+  unfolding readHeadWith readWith
+  reading-long t head = bind-long (textParts t) _ (text-long t) (λ p. parts-long p head)
+
+pub never-short : (r : Manner) (t : Bytes) (head : ℕ) → numbers (readHeadWith (lineReader r) t head) .number ≡ 26 → ⊥
+unfolding isShort
+never-short r t head e = absurd (true≢false (sym (eq-eqb _ 26 e) ∙ reading-long (lineReader r) (reader-long r) t head))

@@ -1,5 +1,5 @@
 -- One step of reading after another: the first refusal is the answer, and where all are accepted record and stores are those of the
--- message that was read. The body store plays no part: there is room for every body. Assumes nothing.
+-- message that was read, by any reader of a header line. The body store plays no part: there is room for every body. Assumes nothing.
 use Prim.Native.Nat.{ℕ, _<_, _≤_}
 use mathlib.Core.Path.{_≡_, refl, sym, ap, subst, _∙_}
 use mathlib.Core.Bool.{true, false, not}
@@ -8,9 +8,9 @@ use native.Mathlib.Omega.{arith}
 use lib.ListN.{length}
 use Rattle.format.specs.Bytes.{Bytes, ascii}
 use Rattle.format.specs.Refusals.{noMessageCpim, table, Out, accepted, refused, numbers, Check, refuseIf, passes, _>>_, _>>=_}
-use Rattle.format.specs.Message.{Message, need}
+use Rattle.format.specs.Message.{Header, Message, need}
 use Rattle.format.specs.Calls.{Stores, room, setBody, append, addContentHeader}
-use Rattle.format.specs.Reading.{each, lines, readHeader, readNamed, readContentLine, blank, saysCpim, Parts, textParts, readLine, readHeaderLine, readParts, readWith}
+use Rattle.format.specs.Reading.{each, lines, readNamed, readContentLine, blank, saysCpim, Parts, textParts, readLine, readHeaderLine, readParts, readWith}
 use Rattle.format.specs.Layout.{Lent}
 use Rattle.format.specs.Lending.{ReadInto}
 use Rattle.format.specs.declared.Numbers.{Numbers}
@@ -18,7 +18,7 @@ use Rattle.format.proofs.Steps.{accepted-same, refused-accepted, refuseUnless-p
 use Rattle.format.proofs.Answers.{other-fails, then-refused, room-short, room-enough}
 use Rattle.message.proofs.BodyStored.{new-need}
 use Rattle.read.proofs.LinesLoop.{other-refused}
-use Rattle.read.specs.Heads.{anyBody, readHead}
+use Rattle.read.specs.Heads.{anyBody, readHeadWith}
 use Rattle.read.specs.Outcome.{ReadBy}
 
 module _ (l k : Lent) (n : Numbers) where
@@ -51,19 +51,19 @@ module _ (l k : Lent) (n : Numbers) where
 
 -- Lines do not ask for the length of the body store.
 module _ (a b c : ℕ) (l : Bytes) (m : Message) where
-  header-free : readHeaderLine readHeader (record { head = a; body = b }) l m ≡ readHeaderLine readHeader (record { head = a; body = c }) l m
+  header-free : (reader : Bytes → Out Header) → readHeaderLine reader (record { head = a; body = b }) l m ≡ readHeaderLine reader (record { head = a; body = c }) l m
   unfolding readHeaderLine readLine append
-  header-free = refl
+  header-free reader = refl
 
   content-free : readContentLine (record { head = a; body = b }) l m ≡ readContentLine (record { head = a; body = c }) l m
   unfolding readContentLine readNamed addContentHeader
   content-free = refl
 
 module _ (s t : Stores) (e : s .head ≡ t .head) (ls : List Bytes) (m : Message) where
-  pub headers-same : each (readHeaderLine readHeader s) ls m ≡ each (readHeaderLine readHeader t) ls m
-  headers-same =
-      ap (λ (i : ℕ). each (readHeaderLine readHeader (record { head = i; body = s .body })) ls m) e
-      ∙ (λ i. each (λ l k. header-free (t .head) (s .body) (t .body) l k i) ls m)
+  pub headers-same : (reader : Bytes → Out Header) → each (readHeaderLine reader s) ls m ≡ each (readHeaderLine reader t) ls m
+  headers-same reader =
+      ap (λ (i : ℕ). each (readHeaderLine reader (record { head = i; body = s .body })) ls m) e
+      ∙ (λ i. each (λ l k. header-free (t .head) (s .body) (t .body) l k reader i) ls m)
 
   pub contents-same : each (readContentLine s) ls m ≡ each (readContentLine t) ls m
   contents-same =
@@ -71,10 +71,10 @@ module _ (s t : Stores) (e : s .head ≡ t .head) (ls : List Bytes) (m : Message
       ∙ (λ i. each (λ l k. content-free (t .head) (s .body) (t .body) l k i) ls m)
 
 -- The text's parts are p: the ways out, in order.
-module _ (t : Bytes) (p : Parts) (e : textParts t ≡ accepted p) (l k : Lent) (n : Numbers) where
+module _ (reader : Bytes → Out Header) (t : Bytes) (p : Parts) (e : textParts t ≡ accepted p) (l k : Lent) (n : Numbers) where
   -- 3
-  pub no-cpim : n ≡ record { number = 3; carried = 0 } → saysCpim (p .mime) ≡ false → ReadBy l k n (readHead t (length (l .head)))
-  unfolding readHead readWith readParts refuseIf numbers table
+  pub no-cpim : n ≡ record { number = 3; carried = 0 } → saysCpim (p .mime) ≡ false → ReadBy l k n (readHeadWith reader t (length (l .head)))
+  unfolding readHeadWith readWith readParts refuseIf numbers table
   no-cpim a h =
       by-went l k n (textParts t) _ p e
       (by-refused l k n (refuseIf (not (saysCpim (p .mime))) noMessageCpim) _ (a ∙ rw h refl) (λ z. three (ap (λ (x : Numbers). x .number) (sym a) ∙ z)))
@@ -87,8 +87,8 @@ module _ (t : Bytes) (p : Parts) (e : textParts t ≡ accepted p) (l k : Lent) (
     said = refuseUnless-passed (saysCpim (p .mime)) noMessageCpim says
 
     -- 25 carrying 256
-    pub no-room : n ≡ record { number = 25; carried = 256 } → length (l .head) < 256 → ReadBy l k n (readHead t (length (l .head)))
-    unfolding readHead anyBody readWith readParts
+    pub no-room : n ≡ record { number = 25; carried = 256 } → length (l .head) < 256 → ReadBy l k n (readHeadWith reader t (length (l .head)))
+    unfolding readHeadWith anyBody readWith readParts
     no-room a h =
         by-went l k n (textParts t) _ p e
         (by-passed l k n (refuseIf (not (saysCpim (p .mime))) noMessageCpim) _ said
@@ -100,9 +100,9 @@ module _ (t : Bytes) (p : Parts) (e : textParts t ≡ accepted p) (l k : Lent) (
         twenty-five z = omega arith
 
     module _ (roomy : 256 ≤ length (l .head)) where
-      rest-decides : ReadBy l k n (_>>=_ (each (readHeaderLine readHeader (anyBody (length (l .head)))) (lines (p .headers)) blank) (λ m. _>>=_ (each (readContentLine (anyBody (length (l .head)))) (lines (p .contents)) m) (setBody (p .body) (anyBody (length (l .head))))))
-          → ReadBy l k n (readHead t (length (l .head)))
-      unfolding readHead anyBody readWith readParts
+      rest-decides : ReadBy l k n (_>>=_ (each (readHeaderLine reader (anyBody (length (l .head)))) (lines (p .headers)) blank) (λ m. _>>=_ (each (readContentLine (anyBody (length (l .head)))) (lines (p .contents)) m) (setBody (p .body) (anyBody (length (l .head))))))
+          → ReadBy l k n (readHeadWith reader t (length (l .head)))
+      unfolding readHeadWith anyBody readWith readParts
       rest-decides d =
           by-went l k n (textParts t) _ p e
           (by-passed l k n (refuseIf (not (saysCpim (p .mime))) noMessageCpim) _ said
@@ -110,16 +110,16 @@ module _ (t : Bytes) (p : Parts) (e : textParts t ≡ accepted p) (l k : Lent) (
           (ap (λ (i : ℕ). passes (room (length (l .head)) i)) (new-need (ascii "text/plain") []) ∙ room-enough (length (l .head)) 256 roomy) d))
 
       -- a header line is refused
-      pub headers-stop : n ≡ numbers (each (readHeaderLine readHeader (anyBody (length (l .head)))) (lines (p .headers)) blank) → (n .number ≡ 0 → ⊥)
-          → ReadBy l k n (readHead t (length (l .head)))
+      pub headers-stop : n ≡ numbers (each (readHeaderLine reader (anyBody (length (l .head)))) (lines (p .headers)) blank) → (n .number ≡ 0 → ⊥)
+          → ReadBy l k n (readHeadWith reader t (length (l .head)))
       headers-stop a z = rest-decides (by-stopped l k n _ _ a z)
 
-      module _ (m : Message) (heads : each (readHeaderLine readHeader (anyBody (length (l .head)))) (lines (p .headers)) blank ≡ accepted m) where
+      module _ (m : Message) (heads : each (readHeaderLine reader (anyBody (length (l .head)))) (lines (p .headers)) blank ≡ accepted m) where
         -- a content line is refused
-        pub contents-stop : n ≡ numbers (each (readContentLine (anyBody (length (l .head)))) (lines (p .contents)) m) → (n .number ≡ 0 → ⊥) → ReadBy l k n (readHead t (length (l .head)))
+        pub contents-stop : n ≡ numbers (each (readContentLine (anyBody (length (l .head)))) (lines (p .contents)) m) → (n .number ≡ 0 → ⊥) → ReadBy l k n (readHeadWith reader t (length (l .head)))
         contents-stop a z = rest-decides (by-went l k n _ _ m heads (by-stopped l k n _ _ a z))
 
         -- the body decides
         pub body-decides : (j : Message) → each (readContentLine (anyBody (length (l .head)))) (lines (p .contents)) m ≡ accepted j
-            → ReadBy l k n (setBody (p .body) (anyBody (length (l .head))) j) → ReadBy l k n (readHead t (length (l .head)))
+            → ReadBy l k n (setBody (p .body) (anyBody (length (l .head))) j) → ReadBy l k n (readHeadWith reader t (length (l .head)))
         body-decides j c d = rest-decides (by-went l k n _ _ m heads (by-went l k n _ _ j c d))

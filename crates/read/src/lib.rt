@@ -1,6 +1,8 @@
-// Document 01, "Reading": `parse_cpim`, and `parse_head`, which leaves the body where it stands. A text is judged (`read_split`), its header
-// lines and content lines are read into the head store (`section_lines`), its body is measured, and by `parse_cpim` laid into the body
-// store. A refused reading leaves zeros in what it is lent.
+// Document 01, "Reading": `parse_cpim`, and `parse_head`, which leaves the body where it stands. Document 02, T-01:
+// `parse_cpim_rfc` and `parse_head_rfc`, the same with the second reader of a header line. A text is judged
+// (`read_split`), its header lines and content lines are read into the head store (`section_lines`), its body is
+// measured, and by `parse_cpim` and `parse_cpim_rfc` laid into the body store. A refused reading leaves zeros in what it
+// is lent.
 
 mod section_lines;
 
@@ -8,6 +10,7 @@ use crate::section_lines::read_contents;
 use crate::section_lines::read_headers;
 use format::Answer;
 use format::CpimMessage;
+use format::Manner;
 use message::no_message;
 use octets::compare::says;
 use octets::copy_at;
@@ -28,11 +31,12 @@ ghost use Rattle.format.specs.Refusals.{accepted};
 ghost use Rattle.format.specs.Message.{Message};
 ghost use Rattle.format.specs.Calls.{setBody};
 ghost use Rattle.format.specs.Reading.{blank};
+ghost use Rattle.format.specs.ReadingRfc.{readHeaderRfc, lineReader};
 ghost use Rattle.format.specs.Layout.{Holds, emptyMessage};
-ghost use Rattle.format.specs.Lending.{headLent, bothLent, numbersOf, zeroed, Parsed};
+ghost use Rattle.format.specs.Lending.{headLent, bothLent, numbersOf, zeroed, ParsedWith, Parsed};
 ghost use Rattle.sections.specs.declared.Places.the-variants.{Four};
 ghost use Rattle.read_split.specs.TextJudged.{Stands, bodyBehind};
-ghost use Rattle.read.specs.Heads.{anyBody, readHead, headNumbers, HeadParsed};
+ghost use Rattle.read.specs.Heads.{anyBody, readHeadWith, headNumbers, HeadParsedWith, HeadParsed};
 ghost use Rattle.read.specs.Outcome.{ReadBy, BodyStands};
 
 // What a reading that leaves the body where it stands answers: the two numbers, the record, whether the body stands in the text, and
@@ -87,6 +91,7 @@ fn measure_body(text: &[u8], crlf: bool, rest: usize, m: CpimMessage) -> Answer
 
 // 3, 25 carrying 256, headers, content headers, 23.
 fn read_sections(
+    manner: Manner,
     text: &[u8],
     crlf: bool,
     end1: usize,
@@ -98,7 +103,7 @@ fn read_sections(
     head: &mut [u8],
 ) -> Answer
     requires { ⌜ Stands (now text) crlf (Four end1 start2 end2 start3 end3 rest) ⌝ }
-    ensures { λ r. ⌜ ReadBy (headLent emptyMessage (now (head .entry))) (headLent (r .message) (now (head .exit))) (numbersOf r) (readHead (now (text .entry)) (length (now (head .entry)))) ⌝ }
+    ensures { λ r. ⌜ ReadBy (headLent emptyMessage (now (head .entry))) (headLent (r .message) (now (head .exit))) (numbersOf r) (readHeadWith (lineReader manner) (now (text .entry)) (length (now (head .entry)))) ⌝ }
 {
     if !says(&text[..end1], b"message/cpim") {
         return no_message(3, 0);
@@ -108,7 +113,7 @@ fn read_sections(
     }
     let m = start(head);
     let mut params = [0u8; 3376];
-    let h = read_headers(&text[start2..end2], m, head, &mut params);
+    let h = read_headers(manner, &text[start2..end2], m, head, &mut params);
     if h.number != 0 {
         return h;
     }
@@ -134,9 +139,9 @@ fn placed(a: Answer, in_text: bool, start: usize) -> HeadAnswer
 }
 
 // 1, 24, 2 before all others. Accepted, the body stands behind the place `start`, as it is or in sections to be joined.
-fn read_text(text: &[u8], head: &mut [u8]) -> HeadAnswer
-    ensures read { λ r. ⌜ ReadBy (headLent emptyMessage (now (head .entry))) (headLent (r .message) (now (head .exit))) (headNumbers r) (readHead (now (text .entry)) (length (now (head .entry)))) ⌝ }
-    ensures body { λ r. ⌜ ((m : Message) → readHead (now (text .entry)) (length (now (head .entry))) ≡ accepted m → BodyStands (now (text .entry)) (r .«in_text») (r .start) (m .body)) ⌝ }
+fn read_text(manner: Manner, text: &[u8], head: &mut [u8]) -> HeadAnswer
+    ensures read { λ r. ⌜ ReadBy (headLent emptyMessage (now (head .entry))) (headLent (r .message) (now (head .exit))) (headNumbers r) (readHeadWith (lineReader manner) (now (text .entry)) (length (now (head .entry)))) ⌝ }
+    ensures body { λ r. ⌜ ((m : Message) → readHeadWith (lineReader manner) (now (text .entry)) (length (now (head .entry))) ≡ accepted m → BodyStands (now (text .entry)) (r .«in_text») (r .start) (m .body)) ⌝ }
 {
     let judgement = judge(text);
     match judgement {
@@ -150,7 +155,18 @@ fn read_text(text: &[u8], head: &mut [u8]) -> HeadAnswer
             end3,
             rest,
         } => {
-            let r = read_sections(text, crlf, end1, start2, end2, start3, end3, rest, head);
+            let r = read_sections(
+                manner,
+                text,
+                crlf,
+                end1,
+                start2,
+                end2,
+                start3,
+                end3,
+                rest,
+                head,
+            );
             placed(r, crlf, rest)
         }
     }
@@ -168,12 +184,11 @@ fn store_body(text: &[u8], crlf: bool, rest: usize, store: &mut [u8])
     join_into(store, 0, &text[rest..]);
 }
 
-// A text read into a lent head store, its body left in the text, or, under LFLF, only measured; 26 never comes. Refused, the record is
-// empty and the head store is zeros.
-pub fn parse_head(text: &[u8], head: &mut [u8]) -> HeadAnswer
-    ensures { λ r. ⌜ HeadParsed (now (text .entry)) (headLent emptyMessage (now (head .entry))) (headLent (r .message) (now (head .exit))) r ⌝ }
+// A text read into a lent head store by either reader of a header line.
+fn head_by(manner: Manner, text: &[u8], head: &mut [u8]) -> HeadAnswer
+    ensures { λ r. ⌜ HeadParsedWith (lineReader manner) (now (text .entry)) (headLent emptyMessage (now (head .entry))) (headLent (r .message) (now (head .exit))) r ⌝ }
 {
-    let r = read_text(text, head);
+    let r = read_text(manner, text, head);
     if r.number != 0 {
         zero_fill(head);
         return placed(no_message(r.number, r.carried), false, 0);
@@ -191,6 +206,21 @@ pub fn parse_head(text: &[u8], head: &mut [u8]) -> HeadAnswer
     }
 }
 
+// A text read into a lent head store, its body left in the text, or, under LFLF, only measured; 26 never comes. Refused, the record is
+// empty and the head store is zeros.
+pub fn parse_head(text: &[u8], head: &mut [u8]) -> HeadAnswer
+    ensures { λ r. ⌜ HeadParsed (now (text .entry)) (headLent emptyMessage (now (head .entry))) (headLent (r .message) (now (head .exit))) r ⌝ }
+{
+    head_by(Manner::Source, text, head)
+}
+
+// `parse_head` by the second reader of a header line.
+pub fn parse_head_rfc(text: &[u8], head: &mut [u8]) -> HeadAnswer
+    ensures { λ r. ⌜ HeadParsedWith readHeaderRfc (now (text .entry)) (headLent emptyMessage (now (head .entry))) (headLent (r .message) (now (head .exit))) r ⌝ }
+{
+    head_by(Manner::Rfc, text, head)
+}
+
 // A refusal: the empty record, and zeros in both stores.
 fn refuse(number: u64, carried: u64, head: &mut [u8], body: &mut [u8]) -> Answer
     ensures answered { λ r. ⌜ numbersOf r ≡ record { number = number; carried = carried } ⌝ }
@@ -201,11 +231,11 @@ fn refuse(number: u64, carried: u64, head: &mut [u8], body: &mut [u8]) -> Answer
     no_message(number, carried)
 }
 
-// A text read into lent stores; refused, the record is empty and both stores are zeros.
-pub fn parse_cpim(text: &[u8], head: &mut [u8], body: &mut [u8]) -> Answer
-    ensures { λ r. ⌜ Parsed (now (text .entry)) (bothLent emptyMessage (now (head .entry)) (now (body .entry))) (bothLent (r .message) (now (head .exit)) (now (body .exit))) (numbersOf r) ⌝ }
+// A text read into lent stores by either reader of a header line.
+fn parse_by(manner: Manner, text: &[u8], head: &mut [u8], body: &mut [u8]) -> Answer
+    ensures { λ r. ⌜ ParsedWith (lineReader manner) (now (text .entry)) (bothLent emptyMessage (now (head .entry)) (now (body .entry))) (bothLent (r .message) (now (head .exit)) (now (body .exit))) (numbersOf r) ⌝ }
 {
-    let r = read_text(text, head);
+    let r = read_text(manner, text, head);
     if r.number != 0 {
         return refuse(r.number, r.carried, head, body);
     }
@@ -219,4 +249,18 @@ pub fn parse_cpim(text: &[u8], head: &mut [u8], body: &mut [u8]) -> Answer
         carried: 0,
         message: m,
     }
+}
+
+// A text read into lent stores; refused, the record is empty and both stores are zeros.
+pub fn parse_cpim(text: &[u8], head: &mut [u8], body: &mut [u8]) -> Answer
+    ensures { λ r. ⌜ Parsed (now (text .entry)) (bothLent emptyMessage (now (head .entry)) (now (body .entry))) (bothLent (r .message) (now (head .exit)) (now (body .exit))) (numbersOf r) ⌝ }
+{
+    parse_by(Manner::Source, text, head, body)
+}
+
+// `parse_cpim` by the second reader of a header line.
+pub fn parse_cpim_rfc(text: &[u8], head: &mut [u8], body: &mut [u8]) -> Answer
+    ensures { λ r. ⌜ ParsedWith readHeaderRfc (now (text .entry)) (bothLent emptyMessage (now (head .entry)) (now (body .entry))) (bothLent (r .message) (now (head .exit)) (now (body .exit))) (numbersOf r) ⌝ }
+{
+    parse_by(Manner::Rfc, text, head, body)
 }

@@ -1,8 +1,9 @@
 pub mod Gathering
-pub mod Left
+pub mod Front
 pub mod Parting
 pub mod Setting
 pub mod LineSteps
+pub mod LineParts
 pub mod ParamTurns
 pub mod ValueRead
 pub mod Yielding

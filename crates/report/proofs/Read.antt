@@ -10,8 +10,9 @@ use Rattle.format.specs.Layout.{Lent, Holds, emptyMessage}
 use Rattle.format.specs.Lending.{headLent, bothLent, lengths, lengthOf, Parsed}
 use Rattle.format.specs.Reading.{read}
 use Rattle.format.specs.declared.Numbers.{Numbers}
+use Rattle.format.specs.declared.Manner.the-variants.{Source}
 use Rattle.format.proofs.Steps.{refused-number}
-use Rattle.format.proofs.Demand3.{parsed-holds}
+use Rattle.format.proofs.Begun.{parsed-holds}
 use Rattle.store_check.specs.Holding.{messageHolds}
 use Rattle.store_check.proofs.MessageHeld.{holds-held}
 
@@ -49,7 +50,7 @@ module _ (input head body : Bytes) (k : Lent) (n : Numbers) (h : length head ≡
         by (refused r) e f = absurd (refused-number r (ap (λ (x : Numbers). x .number) (sym f) ∙ z))
 
     pub in-both : Holds k (is-read .0)
-    in-both = parsed-holds input lent k n (is-read .0) parsed (ap (read input) room ∙ is-read .1)
+    in-both = parsed-holds Source input lent k n (is-read .0) parsed (ap (read input) room ∙ is-read .1)
 
     pub in-store : Holds (headLent (k .message) (k .head)) (is-read .0)
     in-store = record { within = in-both .within; recorded = in-both .recorded; laid = in-both .laid; stored = tt }

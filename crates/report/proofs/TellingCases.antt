@@ -90,7 +90,7 @@ module _ (input head body : Bytes) (k : Lent) (n : Numbers) (fits : length input
 
   pub told-accepted : (z : n .number ≡ 0) (l : Loss) → ((o : Option Message) → Held k o → l ≡ lossHeld o)
       → lossWords (is-read input head body k n h b parsed z .0) l ++ LF ≡ wholecpim input
-  unfolding wholecpim tell lossHeld
+  unfolding wholecpim tell
   told-accepted z l f =
       let m = is-read input head body k n h b parsed z in
       rw (le-leb _ _ fits)

@@ -15,7 +15,7 @@ row n [] = []
 row zero (r ∷ rs) = r
 row (suc n) (r ∷ rs) = row n rs
 
--- the conditions by their numbers in document 01's table
+-- the conditions by their numbers in document 01's table, and document 02's 27 and 28
 unfoldable pub conditions : List Bytes
 conditions =
     ascii "accepted"
@@ -45,6 +45,8 @@ conditions =
     ∷ ascii "text not UTF-8"
     ∷ ascii "head store too short"
     ∷ ascii "input or body longer than there is room for"
+    ∷ ascii "parameter lacks ="
+    ∷ ascii "no space behind the colon, or neither a space nor ; right behind it"
     ∷ []
 
 -- why a message does not come back whole, by clause; of a clause about an entry, what is said behind its name; the row of 8, which is never

@@ -35,7 +35,7 @@ fn put_condition(out: &mut [u8], at: usize, number: u64) -> usize
     ensures { λ r. ⌜ Put at 80 (condition number) (now (out .entry)) (now (out .exit)) r ⌝ }
 {
     let words = line(
-        b"accepted\ntext too long\nfewer than 4 sections\nno message/cpim\nheader line lacks a colon\nbad escape\nname empty\nname too long\nASCII control in name\none of : ; = \\ \" in name\nvalue too long\nASCII control in content value\nparameter name empty\nparameter name too long\nASCII control or ; = \\ \" in parameter name\nparameter value too long\nASCII control or ; \\ \" in parameter value\ncontent type empty\ncontent type too long\nASCII control in content type\ntoo many headers\ntoo many parameters\ntoo many content headers\nbody too long\ntext not UTF-8\nhead store too short\ninput or body longer than there is room for\n",
+        b"accepted\ntext too long\nfewer than 4 sections\nno message/cpim\nheader line lacks a colon\nbad escape\nname empty\nname too long\nASCII control in name\none of : ; = \\ \" in name\nvalue too long\nASCII control in content value\nparameter name empty\nparameter name too long\nASCII control or ; = \\ \" in parameter name\nparameter value too long\nASCII control or ; \\ \" in parameter value\ncontent type empty\ncontent type too long\nASCII control in content type\ntoo many headers\ntoo many parameters\ntoo many content headers\nbody too long\ntext not UTF-8\nhead store too short\ninput or body longer than there is room for\nparameter lacks =\nno space behind the colon, or neither a space nor ; right behind it\n",
         number as usize,
     );
     put(out, at, words)

@@ -1,18 +1,17 @@
 -- A walk over entries up to the first that fails a test. Assumes nothing.
 use Prim.Native.Nat.{ℕ, _+_, _-_, _≤_, _<_}
 use mathlib.Core.Path.{_≡_, refl, sym, ap, _∙_}
-use mathlib.Core.Bool.{Bool, true, false}
+use mathlib.Core.Bool.{Bool, true, false, _&&_}
 use mathlib.Core.List.{List, _∷_}
 use native.Mathlib.Omega.{arith}
 use lib.ListN.{length, drop}
 use lib.Seq.{drop-drop}
-use Rattle.format.specs.Bytes.{Bytes}
-use Rattle.format.specs.Characters.{isWhite, clearEnds}
-use Rattle.format.specs.Demand3.{clearContent}
+use Rattle.format.specs.Bytes.{Bytes, all}
+use Rattle.format.proofs.Lists.{all-head, all-tail}
 use Rattle.store_entries.specs.Stored.{Stored, sizeIn, nameIn, valueIn, storedIn, shaped, shapedAll, entriesIn}
 use Rattle.store_entries.proofs.EntryShape.{within-size, within-numbers}
 use Rattle.store_entries.proofs.Sequences.{next-shaped, next-entry, no-entry}
-use Rattle.roundtrip.specs.Clauses.{asEntry, passing}
+use Rattle.roundtrip.specs.Clauses.{passing}
 use Rattle.roundtrip.proofs.CountPassing.{passing-nil, passing-on, passing-stops}
 
 -- i of count entries have passed, up to the place at
@@ -26,6 +25,11 @@ module _ (p : Stored → Bool) (s : Bytes) (count : ℕ) where
   walked-start h =
       let e : count - 0 ≡ count = omega arith in
       record { within = omega arith; left = rw e h; same = rw e (omega arith) }
+
+  pub known-start : (q : Stored → Bool) → all q (entriesIn count s) ≡ true → all q (entriesIn (count - 0) (drop 0 s)) ≡ true
+  known-start q h =
+      let e : count - 0 ≡ count = omega arith in
+      rw e h
 
   module _ (at i : ℕ) (w : Walked p s count at i) where
     pub walked-end : count ≤ i → i ≡ passing p (entriesIn count s)
@@ -65,12 +69,23 @@ module _ (p : Stored → Bool) (s : Bytes) (count : ℕ) where
                 omega (arith, w .same ∙ ap (λ (es : List Stored). i + passing p es) next-is, passing-on p (storedIn t) (entriesIn (count - (i + 1)) (drop (at + sizeIn t) s)) h);
           }
 
--- name and value of an entry as it is stored, in turn
-module _ (s n v : Bytes) (ne : n ≡ nameIn s) (ve : v ≡ valueIn s) where
-  pub content-both : clearEnds isWhite n ≡ true → clearEnds isWhite v ≡ clearContent (asEntry (storedIn s))
-  unfolding clearContent storedIn
-  content-both h = rw (sym ne, sym ve, h) refl
+      -- what all entries are known to be, this one is, and those behind it are
+      module _ (q : Stored → Bool) (known : all q (entriesIn (count - i) (drop at s)) ≡ true) where
+        each-known : all q (storedIn (drop at s) ∷ entriesIn (count - (i + 1)) (drop (at + sizeIn (drop at s)) s)) ≡ true
+        each-known = ap (all q) (sym next-is) ∙ known
 
-pub content-not : (s n : Bytes) → n ≡ nameIn s → clearEnds isWhite n ≡ false → false ≡ clearContent (asEntry (storedIn s))
-unfolding clearContent storedIn
-content-not s n e h = rw (sym e, h) refl
+        pub known-here : q (storedIn (drop at s)) ≡ true
+        known-here = all-head q (storedIn (drop at s)) (entriesIn (count - (i + 1)) (drop (at + sizeIn (drop at s)) s)) each-known
+
+        pub known-on : all q (entriesIn (count - (i + 1)) (drop (at + sizeIn (drop at s)) s)) ≡ true
+        known-on = all-tail q (storedIn (drop at s)) (entriesIn (count - (i + 1)) (drop (at + sizeIn (drop at s)) s)) each-known
+
+-- a test of the name and the value of an entry as it is stored, in turn
+module _ (test : Bytes → Bool) (s n v : Bytes) (ne : n ≡ nameIn s) (ve : v ≡ valueIn s) where
+  pub both-tested : test n ≡ true → test v ≡ (test (storedIn s .name) && test (storedIn s .value))
+  unfolding storedIn
+  both-tested h = rw (sym ne, sym ve, h) refl
+
+pub name-fails : (test : Bytes → Bool) (s n : Bytes) → n ≡ nameIn s → test n ≡ false → false ≡ (test (storedIn s .name) && test (storedIn s .value))
+unfolding storedIn
+name-fails test s n e h = rw (sym e, h) refl

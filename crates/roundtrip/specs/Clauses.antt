@@ -1,15 +1,17 @@
--- The clauses of demand 3's condition that are asked of each header or of each content header, and the first that fails one. What a clause
--- asks is crates/format/specs/Demand3.antt's; here it is asked of an entry as it is stored. Assumes nothing.
+-- The clauses of both readings' conditions that are asked of each header, of its parameters or of each content header, and the first that
+-- fails one. What a clause asks is said in crates/format/specs, Demand3.antt and SecondReading.antt; here it is asked of an entry as it is
+-- stored. Assumes nothing.
 use Prim.Native.Nat.{ℕ, suc}
 use mathlib.Core.Bool.{Bool}
 use mathlib.Core.List.{List, [], _∷_}
 use lib.Dec.{eqb}
-use Rattle.format.specs.Bytes.{if_then_else_}
+use Rattle.format.specs.Bytes.{if_then_else_, all}
 use Rattle.format.specs.Message.{Entry, Header}
 use Rattle.format.specs.Demand3.{notType, clearName, clearContent}
-use Rattle.store_entries.specs.Stored.{Stored}
+use Rattle.format.specs.SecondReading.{spacelessParam}
+use Rattle.store_entries.specs.Stored.{Stored, shapedAll, entriesIn}
 use Rattle.roundtrip.specs.declared.clauses.Clause.{Clause}
-use Rattle.roundtrip.specs.declared.clauses.Clause.the-variants.{NoParam, NotType, ClearName, ClearContent}
+use Rattle.roundtrip.specs.declared.clauses.Clause.the-variants.{NoParam, NotType, ClearName, ClearContent, Spaceless}
 
 -- name and value of an entry as it is stored
 abbrev pub asEntry : Stored → Entry
@@ -25,6 +27,15 @@ meets NoParam e = eqb (e .params) 0
 meets NotType e = notType (asEntry e)
 meets ClearName e = clearName (asHeader e)
 meets ClearContent e = clearContent (asEntry e)
+meets Spaceless e = spacelessParam (asEntry e)
+
+-- behind the entry's value stand its parameters, one behind another
+unfoldable pub paramsStand : Stored → Bool
+paramsStand e = shapedAll (e .params) (e .tail)
+
+-- none of its parameters has a space
+unfoldable pub storedSpaceless : Stored → Bool
+storedSpaceless e = all (meets Spaceless) (entriesIn (e .params) (e .tail))
 
 -- how many stand before the first that fails the test; all where none does
 unfoldable pub passing : {A : Type 0} → (A → Bool) → List A → ℕ

@@ -22,7 +22,7 @@ pub const BY_CALLS: &[&str] = &[
     "header_with_param",
 ];
 /// What `calls` compares behind each call or each list of calls.
-pub const BY_LISTS: &[&str] = &["comes_back", "loss", "run"];
+pub const BY_LISTS: &[&str] = &["comes_back", "comes_back_rfc", "loss", "run"];
 /// What `calls` looks up behind each call, and on damaged stores.
 pub const BY_LOOKUPS: &[&str] = &[
     "get_header",
@@ -40,7 +40,17 @@ pub const BY_LOOKUPS: &[&str] = &[
     "places",
     "address",
 ];
-pub const BY_TEXTS: &[&str] = &["parse", "parse_head", "read_body", "body_part", "to_string"];
+pub const BY_TEXTS: &[&str] = &[
+    "parse",
+    "parse_head",
+    "read_body",
+    "body_part",
+    "to_string",
+    "comes_back",
+    "parse_rfc",
+    "parse_head_rfc",
+    "comes_back_rfc",
+];
 
 const SOURCES: [&str; 2] = [
     include_str!(concat!(env!("CARGO_MANIFEST_DIR"), "/../../crates/cpim/src/lib.rt")),

@@ -27,6 +27,8 @@ struct Drawn {
     end: &'static str,
     /// Bare names and values only, so that many lines are accepted.
     plain: bool,
+    /// Parameters behind the colon, and little white space around the parts of a line: the second reading trims none.
+    behind: bool,
 }
 
 fn white(random: &mut Random, s: &mut Vec<u8>) {
@@ -40,6 +42,13 @@ fn padded(random: &mut Random, s: &mut Vec<u8>, part: &[u8]) {
 }
 
 impl Drawn {
+    fn padded(&self, random: &mut Random, s: &mut Vec<u8>, part: &[u8]) {
+        if self.behind && (self.plain || !random.once_in(12)) {
+            return s.extend_from_slice(part);
+        }
+        padded(random, s, part)
+    }
+
     fn name(&self, random: &mut Random) -> Vec<u8> {
         if self.plain {
             return format!("{}{}", random.pick(&["h", "H", "é"]), random.below(70)).into_bytes();
@@ -77,9 +86,12 @@ impl Drawn {
 
     fn param(&self, random: &mut Random, s: &mut Vec<u8>) {
         s.push(b';');
+        if self.behind && self.plain {
+            return s.extend_from_slice(format!("p{}=en", random.below(14)).as_bytes());
+        }
         if random.once_in(12) {
             let part = self.kind.name(random);
-            return padded(random, s, &part);
+            return self.padded(random, s, &part);
         }
         let name = match random.below(30) {
             0 => {
@@ -96,15 +108,13 @@ impl Drawn {
             1..=3 => self.kind.value(random),
             _ => random.pick(&["", "en", "a=b", "ä", "1"]).as_bytes().to_vec(),
         };
-        padded(random, s, &name);
+        self.padded(random, s, &name);
         s.push(b'=');
-        padded(random, s, &value);
+        self.padded(random, s, &value);
     }
 
-    fn header_line(&self, random: &mut Random, s: &mut Vec<u8>) {
-        let name = self.name(random);
-        padded(random, s, &name);
-        let params = match random.below(40) {
+    fn params(&self, random: &mut Random, s: &mut Vec<u8>) {
+        let params = match random.below(if self.behind { 12 } else { 40 }) {
             0 => 9 + random.below(3),
             1..=6 => 1 + random.below(3),
             _ => 0,
@@ -117,11 +127,24 @@ impl Drawn {
         } else {
             (0..params).for_each(|_| self.param(random, s));
         }
+    }
+
+    fn header_line(&self, random: &mut Random, s: &mut Vec<u8>) {
+        let name = self.name(random);
+        self.padded(random, s, &name);
+        if !self.behind {
+            self.params(random, s);
+        }
         if !random.once_in(60) {
             s.push(b':');
         }
+        if self.behind {
+            self.params(random, s);
+            let space = if !self.plain && random.once_in(40) { random.pick(&WHITE) } else { " " };
+            s.extend_from_slice(space.as_bytes());
+        }
         let value = self.value(random);
-        padded(random, s, &value);
+        self.padded(random, s, &value);
     }
 
     fn content_line(&self, random: &mut Random, s: &mut Vec<u8>) {
@@ -175,6 +198,15 @@ fn body(random: &mut Random, separator: &str, s: &mut Vec<u8>) {
 
 /// A text; most are accepted, or refused in one line.
 pub fn text(random: &mut Random) -> Vec<u8> {
+    drawn(random, false)
+}
+
+/// A text with parameters behind the colons; most are accepted by the second reading, or refused in one line.
+pub fn text_behind(random: &mut Random) -> Vec<u8> {
+    drawn(random, true)
+}
+
+fn drawn(random: &mut Random, behind: bool) -> Vec<u8> {
     let shape = random.below(24);
     let odd = random.pick(&[30, 100, 1 << 30]);
     let plain = shape < 4 || random.once_in(3);
@@ -196,10 +228,10 @@ pub fn text(random: &mut Random) -> Vec<u8> {
         1..=3 => 19 + random.below(3),
         _ => random.below(4),
     };
-    let drawn = Drawn { kind, end: random.pick(&ends), plain };
+    let drawn = Drawn { kind, end: random.pick(&ends), plain, behind };
     drawn.section(random, &mut s, headers, |random, s| drawn.header_line(random, s));
     s.extend_from_slice(separator.as_bytes());
-    let drawn = Drawn { kind, end: random.pick(&ends), plain };
+    let drawn = Drawn { kind, end: random.pick(&ends), plain, behind };
     drawn.section(random, &mut s, contents, |random, s| {
         if contents < 9 || random.once_in(40) {
             return drawn.content_line(random, s);

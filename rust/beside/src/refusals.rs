@@ -8,6 +8,9 @@ pub type Refusal = (u64, u64);
 
 pub const NOTHING_HELD: Refusal = (25, 0);
 
+/// How many answers there are by number: accepted, document 01's 1 to 26, and 27 and 28 of document 02's T-01.
+pub const ANSWERS: usize = 29;
+
 /// The table of document 01.
 pub fn number(e: CpimError) -> Refusal {
     use CpimError::*;

@@ -14,8 +14,9 @@ pub(crate) const MAX_BODY_SIZE: usize = 10 * 1024 * 1024;
 pub(crate) const MAX_PARSE_SIZE: usize = 20 * 1024 * 1024;
 pub(crate) const MAX_CONTENT_TYPE_LENGTH: usize = 256;
 
-/// A refusal by its number in document 01's table, and what it carries: a length or count for 1, 7, 10, 13, 15, 18, 20 to 23, the bytes
-/// needed for 25 (0 where nothing valid is held) and 26, else 0.
+/// A refusal by its number in document 01's table, or one of 27 and 28, which come by the second reading alone
+/// ([`parse_cpim_rfc`](crate::parse_cpim_rfc)); and what it carries: a length or count for 1, 7, 10, 13, 15, 18, 20 to 23, the bytes needed for 25
+/// (0 where nothing valid is held) and 26, else 0.
 #[derive(Debug, Clone, Copy, PartialEq, Eq)]
 pub struct Refusal {
     pub number: u64,
@@ -55,6 +56,8 @@ impl fmt::Display for Refusal {
             25 if carried == 0 => f.write_str("no message or header is held"),
             25 => write!(f, "head or header store too short ({carried} bytes needed)"),
             26 => write!(f, "body store or output too short ({carried} bytes needed)"),
+            27 => f.write_str("parameter without ="),
+            28 => f.write_str("no space behind the colon of a header line, or neither a space nor ; right behind it"),
             _ => f.write_str("a number that is not in the table"),
         }
     }
@@ -116,8 +119,8 @@ const CONTROL: &str = "contains control characters";
 const INVALID: &str = "contains invalid characters";
 
 impl From<Refusal> for CpimError {
-    /// The source has no error for 24 to 26, which no call of [`CpimMessage`](crate::CpimMessage) gives: they become a `ParseError` in the
-    /// refusal's own words.
+    /// The source has no error for 24 to 28: they become a `ParseError` in the refusal's own words. No call of
+    /// [`CpimMessage`](crate::CpimMessage) gives 24 to 26, and 27 and 28 come of [`parse_cpim_rfc`](crate::parse_cpim_rfc) alone.
     fn from(refusal: Refusal) -> Self {
         use CpimError::*;
         let actual = usize::try_from(refusal.carried).unwrap_or(usize::MAX);
@@ -150,16 +153,16 @@ impl From<Refusal> for CpimError {
     }
 }
 
-/// The refusal, one of 24 to 26, whose own words these are.
+/// The refusal, one of 24 to 28, whose own words these are.
 fn in_own_words(why: &str) -> Option<Refusal> {
-    let number = why.split(':').next()?.parse().ok().filter(|n| (24..=26).contains(n))?;
+    let number = why.split(':').next()?.parse().ok().filter(|n| (24..=28).contains(n))?;
     let carried = why.rsplit('(').next()?.split(' ').next()?.parse().unwrap_or(0);
     let refusal = Refusal { number, carried };
     (refusal.to_string() == why).then_some(refusal)
 }
 
 impl CpimError {
-    /// The number in document 01's table; 0 for an error in words that this crate does not use.
+    /// The number in document 01's table, 27 or 28; 0 for an error in words that this crate does not use.
     pub fn number(&self) -> u64 {
         use CpimError::*;
         let by_words = |words: &str, known: &[(&str, u64)]| known.iter().find(|(w, _)| *w == words).map_or(0, |k| k.1);
@@ -242,7 +245,7 @@ impl std::error::Error for CpimError {}
 #[test]
 fn every_refusal_is_kept() {
     let carrying = [1, 7, 10, 13, 15, 18, 20, 21, 22, 23, 25, 26];
-    for number in 1..=26 {
+    for number in 1..=28 {
         let carried = if carrying.contains(&number) { 4_711 } else { 0 };
         assert_eq!(CpimError::from(Refusal { number, carried }).refusal(), Refusal { number, carried });
     }

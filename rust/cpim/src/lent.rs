@@ -34,13 +34,33 @@
 //! assert_eq!((m.get_header("Subject"), m.body_as_str()), (Some("Umbrella"), Some("Hi")));
 //! # Ok::<(), cpim::Refusal>(())
 //! ```
+//!
+//! Parameters are written behind the colon, as RFC 3862 has them, and the second reading ([`parse_cpim_rfc`](crate::parse_cpim_rfc) tells of it)
+//! finds them there. [`Message::parse_rfc`] and [`Message::parse_in_place_rfc`] read so.
+//!
+//! ```
+//! use cpim::lent::{Header, Message};
+//!
+//! let (mut head, mut body, mut store, mut out) = ([0; 600], [0; 100], [0; 100], [0; 600]);
+//! let mut umbrella = Header::new(b"Black umbrella", &mut store)?;
+//! umbrella.with_param(b"depot", b"north")?;
+//! let mut m = Message::new(b"text/plain", b"Found on line 4", &mut head, &mut body)?;
+//! m.add_header_obj(b"Subject", &umbrella)?;
+//! assert_eq!((m.comes_back(), m.comes_back_rfc()), (false, true));
+//! let len = m.write(&mut out)?;
+//! assert!(out[..len].starts_with(b"Content-type: Message/CPIM\r\n\r\nSubject:;depot=north Black umbrella\r\n"));
+//!
+//! let m = Message::parse_rfc(&out[..len], &mut head, &mut body)?;
+//! assert_eq!((m.get_header("Subject"), m.nth_param("Subject", 0, 0)), (Some("Black umbrella"), Some(("depot", "north"))));
+//! # Ok::<(), cpim::Refusal>(())
+//! ```
 
 pub use crate::places::{Entries, Entry, Places, MOST};
 pub use crate::raw::{HeaderRecord, Record};
 
 use crate::error::Refusal;
 use crate::loss::Loss;
-use crate::raw::{self, text, Pair};
+use crate::raw::{self, text, HeadAnswer, Pair};
 use std::fmt;
 
 /// A message in lent stores. Its body stands in a store that may be written, or, where `B` is `&[u8]`, as it was found by
@@ -65,6 +85,12 @@ impl<'a> Message<'a> {
     /// Reads a text. A refused reading leaves zeros in both stores.
     pub fn parse(text: &[u8], head: &'a mut [u8], body: &'a mut [u8]) -> Result<Self, Refusal> {
         let record = raw::parse(text, head, body).accepted()?;
+        Ok(Message { record, head, body })
+    }
+
+    /// Reads a text by the second reading: as [`parse`](Message::parse), with parameters where RFC 3862 puts them.
+    pub fn parse_rfc(text: &[u8], head: &'a mut [u8], body: &'a mut [u8]) -> Result<Self, Refusal> {
+        let record = raw::parse_rfc(text, head, body).accepted()?;
         Ok(Message { record, head, body })
     }
 
@@ -96,7 +122,31 @@ impl<'a, 'b> Message<'a, &'b [u8]> {
     /// its length where the buffer is too short; [`parse`](Message::parse) is the faster call for such a text, since it judges it once. A refused
     /// reading leaves zeros in the head store.
     pub fn parse_in_place(text: &'b [u8], head: &'a mut [u8], buffer: &'b mut [u8]) -> Result<Self, Refusal> {
-        let answer = raw::parse_head(text, head).accepted()?;
+        Self::in_place(raw::parse_head, text, head, buffer)
+    }
+
+    /// Reads a text by the second reading and leaves the body in it: as [`parse_in_place`](Message::parse_in_place), with parameters where RFC 3862
+    /// puts them.
+    ///
+    /// ```
+    /// # use cpim::lent::Message;
+    /// let (mut head, mut buffer) = ([0; 600], [0; 100]);
+    /// let text = b"Content-type: Message/CPIM\r\n\r\nSubject:;depot=north Umbrella\r\n\r\nContent-type: text/plain\r\n\r\nHi";
+    /// let m = Message::parse_in_place_rfc(text, &mut head, &mut buffer)?;
+    /// assert_eq!((m.nth_param("Subject", 0, 0), m.body_in_place()), (Some(("depot", "north")), &text[text.len() - 2..]));
+    /// # Ok::<(), cpim::Refusal>(())
+    /// ```
+    pub fn parse_in_place_rfc(text: &'b [u8], head: &'a mut [u8], buffer: &'b mut [u8]) -> Result<Self, Refusal> {
+        Self::in_place(raw::parse_head_rfc, text, head, buffer)
+    }
+
+    fn in_place(
+        parse_head: fn(&[u8], &mut [u8]) -> HeadAnswer,
+        text: &'b [u8],
+        head: &'a mut [u8],
+        buffer: &'b mut [u8],
+    ) -> Result<Self, Refusal> {
+        let answer = parse_head(text, head).accepted()?;
         let body = match answer.body_in(text) {
             Some(body) => body,
             None => match raw::read_body(text, buffer).accepted() {
@@ -161,12 +211,18 @@ impl<B: AsRef<[u8]>> Message<'_, B> {
         raw::to_string(self.record, self.head, self.body.as_ref(), out).accepted()
     }
 
-    /// Whether reading the message's text gives this very message.
+    /// Whether reading the message's text by [`parse`](Message::parse) gives this very message.
     pub fn comes_back(&self) -> bool {
         raw::comes_back(self.record, self.head, self.body.as_ref())
     }
 
-    /// What is lost first where it does not.
+    /// Whether reading the message's text by [`parse_rfc`](Message::parse_rfc) gives this very message: see
+    /// [`CpimMessage::comes_back_rfc`](crate::CpimMessage::comes_back_rfc).
+    pub fn comes_back_rfc(&self) -> bool {
+        raw::comes_back_rfc(self.record, self.head, self.body.as_ref())
+    }
+
+    /// What is lost first where [`comes_back`](Self::comes_back) says no.
     pub fn loss(&self) -> Option<Loss<'_>> {
         Loss::of(self.record, self.head, self.body.as_ref())
     }

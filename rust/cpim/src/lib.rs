@@ -4,7 +4,8 @@
 //! What a call answers and does, and where the entries of a message stand, comes from the functions of crates/cpim; names are looked up there
 //! in Rust. The functions are proved to give what the definitions of crates/format say, for every text and every
 //! list of calls; that the definitions say what `sip_core::cpim` does is tested, by running that module beside the functions (`make compare`).
-//! Added is what that module cannot say: whether a message comes back from its text.
+//! Added is what that module cannot say, whether a message comes back from its text, and a second reading, [`parse_cpim_rfc`], which finds
+//! parameters where they are written.
 //!
 //! ```
 //! use cpim::{CpimHeader, CpimMessage};
@@ -13,11 +14,15 @@
 //! let mut m = CpimMessage::new("text/plain", b"Found on line 4".to_vec())?.with_from("<im:north@depots.example>")?;
 //! m.add_header_obj("Subject", umbrella)?;
 //!
-//! // The text is what the source writes, and the depot is lost in it:
+//! // The text is what the source writes, and the source's reading loses the depot in it:
 //! assert!(m.to_string()?.contains("Subject:;depot=north Black umbrella"));
 //! assert!(!m.comes_back());
 //! let loss = m.loss().unwrap();
 //! assert_eq!(loss.to_string(), "header 2 in the order of names, Subject, has a parameter: it is written behind the colon and read as part of the value");
+//!
+//! // A second reading looks for parameters where they are written, as RFC 3862 has them:
+//! assert!(m.comes_back_rfc());
+//! assert_eq!(cpim::parse_cpim_rfc(&m.to_string()?)?, m);
 //! # Ok::<(), cpim::CpimError>(())
 //! ```
 //!
@@ -41,8 +46,9 @@
 //! - White space at an end of a header value is written as `\u` and four hexadecimal digits, control characters as there: what a clerk pasted with a
 //!   no-break space at its end comes back ([`CpimMessage::to_string`]).
 //! - Each call judges the whole message anew before it changes it, so a list of calls on a message of many headers costs more.
-//! - Added: [`CpimMessage::comes_back`] and [`CpimMessage::loss`]; [`CpimError::number`], [`CpimError::carried`] and [`CpimError::refusal`]; [`lent`],
-//!   messages in stores that the caller lends, nothing being allocated; [`raw`], the C functions as they are.
+//! - Added: [`parse_cpim_rfc`], the second reading; [`CpimMessage::comes_back`], [`CpimMessage::loss`] and [`CpimMessage::comes_back_rfc`];
+//!   [`CpimError::number`], [`CpimError::carried`] and [`CpimError::refusal`]; [`lent`], messages in stores that the caller lends, nothing being
+//!   allocated; [`raw`], the C functions as they are.
 //!
 //! # Examples
 //!
@@ -170,5 +176,5 @@ pub use error::{CpimError, Refusal};
 pub use header::CpimHeader;
 pub use loss::Loss;
 pub use message::CpimMessage;
-pub use parse::parse_cpim;
+pub use parse::{parse_cpim, parse_cpim_rfc};
 pub use text::SmolStr;

@@ -4,9 +4,9 @@ use crate::places::{Places, MOST};
 use crate::raw::{self, text, Record};
 use std::fmt;
 
-/// Why a message does not come back from its text: the first clause of demand 3 that fails (crates/roundtrip/specs/Loss.antt), and for which header
-/// or content header, by its number in map order, counting from 0, and its name. No clause is about the ends of header values,
-/// which are written so that they come back.
+/// Why a message does not come back from its text by [`parse_cpim`](crate::parse_cpim): the first clause of demand 3 that fails
+/// (crates/roundtrip/specs/Loss.antt), and for which header or content header, by its number in map order, counting from 0, and its name. No clause
+/// is about the ends of header values, which are written so that they come back.
 #[derive(Debug, Clone, Copy, PartialEq, Eq)]
 pub enum Loss<'a> {
     /// There is no header: the text lacks a section, so it is refused, or read as another message where the body has a blank line.

@@ -210,12 +210,39 @@ impl CpimMessage {
         }
     }
 
-    /// Whether reading the message's text gives this very message. Proved: yes exactly when it does. The ends of header values play no part in it.
+    /// Whether reading the message's text by [`parse_cpim`](crate::parse_cpim) gives this very message. Proved: yes exactly when it does. The ends of
+    /// header values play no part in it.
     pub fn comes_back(&self) -> bool {
         raw::comes_back(self.record, &self.head, &self.body)
     }
 
-    /// What is lost first where the message does not come back from its text.
+    /// Whether reading the message's text by [`parse_cpim_rfc`](crate::parse_cpim_rfc) gives this very message. Proved: yes exactly when it does.
+    ///
+    /// Parameters come back where none of their names and values holds a space (U+0020), and header names whatever their ends are. All else is asked
+    /// for as by [`comes_back`](Self::comes_back), so yes there is yes here:
+    ///
+    /// ```
+    /// use cpim::{parse_cpim_rfc, CpimHeader, CpimMessage};
+    ///
+    /// let notice = |depot| {
+    ///     let umbrella = CpimHeader::new("Black umbrella")?.with_param("depot", depot)?;
+    ///     let mut m = CpimMessage::new("text/plain", b"Found on line 4".to_vec())?;
+    ///     m.add_header_obj("Subject", umbrella)?;
+    ///     Ok::<_, cpim::CpimError>(m)
+    /// };
+    /// assert!(notice("north")?.comes_back_rfc());
+    ///
+    /// // Parameters end at the first space.
+    /// let two_words = notice("north yard")?;
+    /// assert!(!two_words.comes_back_rfc());
+    /// assert_eq!(parse_cpim_rfc(&two_words.to_string()?)?.get_header("Subject"), Some("yard Black umbrella"));
+    /// # Ok::<(), cpim::CpimError>(())
+    /// ```
+    pub fn comes_back_rfc(&self) -> bool {
+        raw::comes_back_rfc(self.record, &self.head, &self.body)
+    }
+
+    /// What is lost first where [`comes_back`](Self::comes_back) says no.
     pub fn loss(&self) -> Option<Loss<'_>> {
         Loss::of(self.record, &self.head, &self.body)
     }

@@ -85,7 +85,7 @@ impl HeadAnswer {
     }
 }
 
-/// The clause of demand 3 that fails first, from 1 to 7, 0 where none does, 9 where nothing is held; and for which entry.
+/// The clause of demand 3, so for [`parse`], that fails first, from 1 to 7, 0 where none does, 9 where nothing is held; and for which entry.
 #[repr(C)]
 #[derive(Clone, Copy, Debug, PartialEq, Eq)]
 pub struct Loss {
@@ -140,7 +140,9 @@ extern "C" {
         _: usize,
     ) -> Answer<HeaderRecord>;
     fn cpim_parse(text: *const u8, _: usize, head: *mut u8, _: usize, body: *mut u8, _: usize) -> Answer<Record>;
+    fn cpim_parse_rfc(text: *const u8, _: usize, head: *mut u8, _: usize, body: *mut u8, _: usize) -> Answer<Record>;
     fn cpim_parse_head(text: *const u8, _: usize, head: *mut u8, _: usize) -> HeadAnswer;
+    fn cpim_parse_head_rfc(text: *const u8, _: usize, head: *mut u8, _: usize) -> HeadAnswer;
     fn cpim_read_body(text: *const u8, _: usize, buffer: *mut u8, _: usize) -> Answer<usize>;
     fn cpim_to_string(
         m: Record,
@@ -152,6 +154,7 @@ extern "C" {
         _: usize,
     ) -> Answer<usize>;
     fn cpim_comes_back(m: Record, head: *const u8, _: usize, body: *const u8, _: usize) -> bool;
+    fn cpim_comes_back_rfc(m: Record, head: *const u8, _: usize, body: *const u8, _: usize) -> bool;
     fn cpim_loss(m: Record, head: *const u8, _: usize, body: *const u8, _: usize) -> Loss;
     fn cpim_run(script: *const u8, _: usize, m: Record, head: *mut u8, _: usize, body: *mut u8, _: usize) -> Record;
 }
@@ -214,16 +217,48 @@ pub fn header_with_param(h: HeaderRecord, store: &mut [u8], name: &[u8], value: 
     unsafe { cpim_header_with_param(h, s.as_mut_ptr(), s.len(), n.as_ptr(), n.len(), v.as_ptr(), v.len()) }
 }
 
+/// A way to read header lines, by its two functions: with a body store, and with the body left where it stands.
+#[derive(Clone, Copy)]
+pub(crate) struct Reading {
+    parse: unsafe extern "C" fn(*const u8, usize, *mut u8, usize, *mut u8, usize) -> Answer<Record>,
+    parse_head: unsafe extern "C" fn(*const u8, usize, *mut u8, usize) -> HeadAnswer,
+}
+
+impl Reading {
+    /// The source's: parameters before the colon.
+    pub(crate) const SOURCE: Self = Reading { parse: cpim_parse, parse_head: cpim_parse_head };
+    /// The second one: parameters behind the colon, where RFC 3862 puts them.
+    pub(crate) const RFC: Self = Reading { parse: cpim_parse_rfc, parse_head: cpim_parse_head_rfc };
+
+    fn parse(self, text: &[u8], head: &mut [u8], body: &mut [u8]) -> Answer<Record> {
+        let (t, h, b) = (text, head, body);
+        unsafe { (self.parse)(t.as_ptr(), t.len(), h.as_mut_ptr(), h.len(), b.as_mut_ptr(), b.len()) }
+    }
+
+    fn parse_head(self, text: &[u8], head: &mut [u8]) -> HeadAnswer {
+        unsafe { (self.parse_head)(text.as_ptr(), text.len(), head.as_mut_ptr(), head.len()) }
+    }
+}
+
 /// `parse_cpim`. A refused reading leaves zeros in both stores.
 pub fn parse(text: &[u8], head: &mut [u8], body: &mut [u8]) -> Answer<Record> {
-    let (t, h, b) = (text, head, body);
-    unsafe { cpim_parse(t.as_ptr(), t.len(), h.as_mut_ptr(), h.len(), b.as_mut_ptr(), b.len()) }
+    Reading::SOURCE.parse(text, head, body)
+}
+
+/// [`parse`] with parameters where RFC 3862 puts them: the second reading. Only how a header line is read differs; 27 and 28 come by it alone.
+pub fn parse_rfc(text: &[u8], head: &mut [u8], body: &mut [u8]) -> Answer<Record> {
+    Reading::RFC.parse(text, head, body)
 }
 
 /// `parse_cpim` without a body store: record and head store as [`parse`] leaves them, the body where it stands. The same refusals in the same
 /// order, but never 26; a refused reading leaves zeros in the store.
 pub fn parse_head(text: &[u8], head: &mut [u8]) -> HeadAnswer {
-    unsafe { cpim_parse_head(text.as_ptr(), text.len(), head.as_mut_ptr(), head.len()) }
+    Reading::SOURCE.parse_head(text, head)
+}
+
+/// The second reading without a body store: as [`parse_head`] is to [`parse`].
+pub fn parse_head_rfc(text: &[u8], head: &mut [u8]) -> HeadAnswer {
+    Reading::RFC.parse_head(text, head)
 }
 
 /// The length of a text's body; under LFLF the body is written to the buffer's start.
@@ -238,12 +273,17 @@ pub fn to_string(m: Record, head: &[u8], body: &[u8], out: &mut [u8]) -> Answer<
     unsafe { cpim_to_string(m, h.as_ptr(), h.len(), b.as_ptr(), b.len(), out.as_mut_ptr(), out.len()) }
 }
 
-/// Whether reading its text, with room for it, gives the message held.
+/// Whether reading its text by [`parse`], with room for it, gives the message held.
 pub fn comes_back(m: Record, head: &[u8], body: &[u8]) -> bool {
     unsafe { cpim_comes_back(m, head.as_ptr(), head.len(), body.as_ptr(), body.len()) }
 }
 
-/// Where it does not: the clause that fails first, and for which entry.
+/// The same by [`parse_rfc`].
+pub fn comes_back_rfc(m: Record, head: &[u8], body: &[u8]) -> bool {
+    unsafe { cpim_comes_back_rfc(m, head.as_ptr(), head.len(), body.as_ptr(), body.len()) }
+}
+
+/// Where [`comes_back`] says no: the clause that fails first, and for which entry.
 pub fn loss(m: Record, head: &[u8], body: &[u8]) -> Loss {
     unsafe { cpim_loss(m, head.as_ptr(), head.len(), body.as_ptr(), body.len()) }
 }

@@ -1,7 +1,7 @@
 //! What is allocated: nothing by `cpim::lent`, and by reading what the message holds and no more. Every call and every byte is counted.
 
 use cpim::lent::{body_of, Header, Message, MOST};
-use cpim::{parse_cpim, Refusal};
+use cpim::{parse_cpim, parse_cpim_rfc, Refusal};
 use std::alloc::{GlobalAlloc, Layout, System};
 use std::cell::Cell;
 
@@ -48,6 +48,9 @@ fn everything() -> Result<usize, Refusal> {
     let crlf = Message::parse_in_place(CRLF, &mut head, &mut [])?.body().len();
     let short = Message::parse_in_place(TEXT, &mut head, &mut [0; 7]).err();
     assert_eq!((crlf, short), (2, Some(Refusal { number: 26, carried: 8 })));
+    let second = Message::parse_in_place_rfc(CRLF, &mut head, &mut [])?.comes_back_rfc();
+    assert!(second && Message::parse_rfc(CRLF, &mut head, &mut body)?.comes_back());
+    assert_eq!(Message::parse_rfc(TEXT, &mut head, &mut body).err(), Some(Refusal { number: 9, carried: 0 }));
     let mut h = Header::new(b"Umbrella", &mut store)?;
     h.with_param(b"depot", b"north")?;
     let mut seen = h.value().len() + h.params().map(|(_, value)| value.len()).sum::<usize>();
@@ -104,6 +107,10 @@ fn a_message_is_as_long_as_it_has_to_be() {
         let (m, held, more) = held_by(|| parse_cpim(&text));
         assert!(m.is_ok());
         assert_eq!((held, more), (need, 0), "the head and the body, each made once");
+        let behind = text.replace("a:b", "a: b").replace("c;d=e:f", "c:;d=e f");
+        let (m, held, more) = held_by(|| parse_cpim_rfc(&behind));
+        assert!(m.is_ok());
+        assert_eq!((held, more), (need, 0), "by the second reading too");
         let lf = text.replace('\r', "");
         let (m, held, more) = held_by(|| parse_cpim(&lf));
         assert!(m.is_ok_and(|m| m.body().len() == 5 * (body / 5)));

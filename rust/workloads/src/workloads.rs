@@ -4,7 +4,8 @@
 use crate::measure::{in_turn, side, Side};
 use crate::tables;
 use ::workloads::inputs::{many, text, Many, Script, LARGE, NOTICE};
-use cpim::raw::{self, Record};
+use cpim::raw::{self, Answer, Record};
+use cpim::{CpimError, CpimMessage};
 use source::cpim as source;
 
 /// The head store's bytes that are lent: as many as any message needs.
@@ -16,6 +17,19 @@ fn row(what: &str, goal: f64, sides: [Side<'_>; 3]) {
     let table = if goal.is_finite() { tables::GOALS } else { tables::SIZES };
     println!("{table}\t{what}\t{goal}\t{lent}\t{crated}\t{there}");
 }
+
+/// Reads a text into a head store and a body store.
+type Parse = fn(&[u8], &mut [u8], &mut [u8]) -> Answer<Record>;
+
+/// A reading by the lent stores and by the gateway's crate.
+struct Reading {
+    lent: Parse,
+    crated: fn(&str) -> Result<CpimMessage, CpimError>,
+}
+
+/// The source's, and the second one.
+const FIRST: Reading = Reading { lent: raw::parse, crated: cpim::parse_cpim };
+const SECOND: Reading = Reading { lent: raw::parse_rfc, crated: cpim::parse_cpim_rfc };
 
 /// Lent stores, and what they hold.
 struct Lent {
@@ -33,7 +47,7 @@ impl Lent {
     /// Stores that hold what a text has, with room for its text.
     fn holding(text: &str) -> Self {
         let mut lent = Lent::new(HEAD, text.len(), text.len() + 4_096);
-        lent.read(text);
+        lent.read(&FIRST, text);
         lent
     }
 
@@ -43,8 +57,8 @@ impl Lent {
         self.out.fill(0);
     }
 
-    fn read(&mut self, text: &str) -> u64 {
-        let answer = raw::parse(text.as_bytes(), &mut self.head, &mut self.body);
+    fn read(&mut self, reading: &Reading, text: &str) -> u64 {
+        let answer = (reading.lent)(text.as_bytes(), &mut self.head, &mut self.body);
         assert_eq!((answer.number, answer.carried), (0, 0));
         self.record = answer.record;
         answer.number
@@ -63,12 +77,17 @@ fn head_for(text: &str) -> usize {
 }
 
 fn reading(what: &str, goal: f64, text: &str, body: usize) {
+    reading_by(&FIRST, what, goal, text, body);
+}
+
+/// The source has one reading alone, which stands beside each.
+fn reading_by(reading: &Reading, what: &str, goal: f64, text: &str, body: usize) {
     row(
         what,
         goal,
         [
-            side(Lent::new(head_for(text), body, 0), Lent::clear, |lent| lent.read(text)),
-            side((), |_| {}, |_| cpim::parse_cpim(text).expect(what)),
+            side(Lent::new(head_for(text), body, 0), Lent::clear, |lent| lent.read(reading, text)),
+            side((), |_| {}, |_| (reading.crated)(text).expect(what)),
             side((), |_| {}, |_| source::parse_cpim(text).expect(what)),
         ],
     );
@@ -133,7 +152,7 @@ fn building(what: &str, goal: f64, many: &Many) {
 fn lookup(what: &str, goal: f64, text: &str, name: &str) {
     let (crated, there) = (cpim::parse_cpim(text).expect(what), source::parse_cpim(text).expect(what));
     let mut lent = Lent::new(head_for(text), text.len(), 0);
-    lent.read(text);
+    lent.read(&FIRST, text);
     row(
         what,
         goal,
@@ -163,6 +182,7 @@ pub fn all() {
     writing("(g) writing them", 0.5, &many.text());
     building("(h) building them by calls", 0.5, &many);
     lookup("(i) a lookup in the notice", 1.0, NOTICE, "Subject");
+    reading_by(&SECOND, "(j) the second reading of the notice of 379 bytes", 0.5, NOTICE, 256);
     for n in SIZES {
         reading(&format!("reading, CRLF, {n}"), f64::INFINITY, &text(Script::Ascii, "\r\n", n), n);
         writing(&format!("writing, CRLF, {n}"), f64::INFINITY, &text(Script::Ascii, "\r\n", n));

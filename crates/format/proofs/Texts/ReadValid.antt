@@ -15,7 +15,7 @@ use Rattle.format.specs.Refusals.{badEscape, tooFewSections, Out, accept
 use Rattle.format.specs.Validators.{headerValue, contentType, utf8}
 use Rattle.format.specs.Message.{Entry, Header, Message, ascending, increasing, need, validHeader, valid}
 use Rattle.format.specs.Calls.{Stores}
-use Rattle.format.specs.Reading.{each, separator, sections, lineEnd, lines, readParam, checkedValue, readValue, readNameAndValue, readHeader, readType, readNamed, readContentLine, blank, readLine, readHeaderLine, Parts, partsOf, textParts, readParts, readWith, read}
+use Rattle.format.specs.Reading.{each, separator, sections, lineEnd, lines, readParam, checkedValue, readValue, readNameAndValue, readHeader, readType, readNamed, readContentLine, blank, readLine, readHeaderLine, Parts, partsOf, textParts, readParts, readWith}
 use Rattle.format.specs.declared.Manner.{Manner}
 use Rattle.format.specs.declared.Manner.the-variants.{Source}
 use Rattle.format.proofs.Lists.{bcase, all-head, all-tail}
@@ -215,9 +215,3 @@ module _ (r : Bytes → Out Header) (good : (l : Bytes) (h : Header) → isUtf8 
   readWith-room t st m h =
       let f = readWith-fits t st m h in
       (f .0 .roomy, f .1)
-
-pub read-valid : (t : Bytes) (st : Stores) (m : Message) → read t st ≡ accepted m → valid m ≡ true
-read-valid t st m h = readWith-valid readHeader readHeader-valid t st m h
-
-pub read-room : (t : Bytes) (st : Stores) (m : Message) → read t st ≡ accepted m → (need m ≤ st .head) × (length (m .body) ≤ st .body)
-read-room t st m h = readWith-room readHeader readHeader-valid t st m h

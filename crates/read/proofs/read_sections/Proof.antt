@@ -9,9 +9,10 @@ use borrow.Author.Needs.{needs}
 use borrow.Author.Tests.{not-true, not-false}
 use Rattle.format.specs.Bytes.{Bytes}
 use Rattle.format.specs.Characters.{isUtf8}
-use Rattle.format.specs.Refusals.{accepted}
-use Rattle.format.specs.Message.{Message}
-use Rattle.format.specs.Reading.{each, lines, readHeader, readHeaderLine, readContentLine, blank, saysCpim, Parts, textParts}
+use Rattle.format.specs.Refusals.{Out, accepted}
+use Rattle.format.specs.Message.{Header, Message}
+use Rattle.format.specs.Reading.{each, lines, readHeaderLine, readContentLine, blank, saysCpim, Parts, textParts}
+use Rattle.format.specs.ReadingRfc.{lineReader}
 use Rattle.format.specs.Calls.{Stores}
 use Rattle.format.specs.Layout.{Lent, emptyMessage}
 use Rattle.format.specs.Lending.{headLent, lengths, numbersOf}
@@ -29,7 +30,10 @@ use Rattle.read.proofs.ReadStores.{by-same}
 use Rattle.read.proofs.read_sections.Statement.{statement}
 use Rattle.read.proofs.read_sections.Tie as tie
 
--- the text, its parts, and what is lent
+-- the reader of a header line, the text, its parts, and what is lent
+abbrev reader-at : tie.Start → Bytes → Out Header
+reader-at c = lineReader (c .args .manner)
+
 abbrev text-at : tie.Start → Bytes
 text-at c = c .args .text .now
 
@@ -67,18 +71,18 @@ kept-start : (c : tie.After-start) → length (c .start .last .0) ≡ length (th
 kept-start c = c .start .kept .0
 
 headers-read : (c : tie.After-read-headers)
-    → LinesRead (headLent (c .read-headers .result .message) (c .read-headers .last .1 .1 .0)) (numbersOf (c .read-headers .result)) (each (readHeaderLine readHeader (stores-at (search))) (lines (parts-at (search) .headers)) blank)
+    → LinesRead (headLent (c .read-headers .result .message) (c .read-headers .last .1 .1 .1 .0)) (numbersOf (c .read-headers .result)) (each (readHeaderLine (reader-at (search)) (stores-at (search))) (lines (parts-at (search) .headers)) blank)
 unfolding lengths anyBody
 headers-read c =
-    subst (LinesRead _ _) (headers-same _ (stores-at (search)) (kept-start (search)) _ blank) (c .read-headers .ensures blank (the tie.After-start (search) .start .ensures))
+    subst (LinesRead _ _) (headers-same _ (stores-at (search)) (kept-start (search)) _ blank (reader-at (search))) (c .read-headers .ensures blank (the tie.After-start (search) .start .ensures))
 
-kept-headers : (c : tie.After-read-headers) → length (c .read-headers .last .1 .1 .0) ≡ length (the tie.Start (search) .args .head .now)
-kept-headers c = c .read-headers .kept .1 .1 .0 ∙ kept-start (search)
+kept-headers : (c : tie.After-read-headers) → length (c .read-headers .last .1 .1 .1 .0) ≡ length (the tie.Start (search) .args .head .now)
+kept-headers c = c .read-headers .kept .1 .1 .1 .0 ∙ kept-start (search)
 
 abbrev start-before-read-headers : tie.After-read-headers → tie.Start
 start-before-read-headers p = search
 
-headers-are : (c : tie.Else3) → (m : Message) × (each (readHeaderLine readHeader (stores-at (start-before-read-headers (search)))) (lines (parts-at (start-before-read-headers (search)) .headers)) blank ≡ accepted m)
+headers-are : (c : tie.Else3) → (m : Message) × (each (readHeaderLine (reader-at (start-before-read-headers (search))) (stores-at (start-before-read-headers (search)))) (lines (parts-at (start-before-read-headers (search)) .headers)) blank ≡ accepted m)
 headers-are c = zero-accepted _ _ (headers-read (search) .answered) (c .if3 .left)
 
 -- the content headers in the same way
@@ -104,12 +108,12 @@ returns : tie.Need-returns
 unfolding saysCpim
 returns c =
     let start : tie.Start = search in
-    no-cpim (text-at start) (parts-at start) (parts-are start) (lent-at start) (headLent (c .no-message .result .message) (start .args .head .now)) (numbersOf (c .no-message .result)) (ap numbersOf (c .no-message .ensures)) (sym (the tie.After-says (search) .says .ensures) ∙ not-true _ (the tie.Then1 (search) .if1 .taken))
+    no-cpim (reader-at start) (text-at start) (parts-at start) (parts-are start) (lent-at start) (headLent (c .no-message .result .message) (start .args .head .now)) (numbersOf (c .no-message .result)) (ap numbersOf (c .no-message .ensures)) (sym (the tie.After-says (search) .says .ensures) ∙ not-true _ (the tie.Then1 (search) .if1 .taken))
 
 returns-2 : tie.Need-returns-2
 returns-2 c =
     let start : tie.Start = search in
-    no-room (text-at start) (parts-at start) (parts-are start) (lent-at start) (headLent (c .no-message2 .result .message) (start .args .head .now)) (numbersOf (c .no-message2 .result)) (said (search)) (ap numbersOf (c .no-message2 .ensures)) (omega arith)
+    no-room (reader-at start) (text-at start) (parts-at start) (parts-are start) (lent-at start) (headLent (c .no-message2 .result .message) (start .args .head .now)) (numbersOf (c .no-message2 .result)) (said (search)) (ap numbersOf (c .no-message2 .ensures)) (omega arith)
 
 start-requires : tie.Need-start-requires
 start-requires c κs = omega arith
@@ -140,7 +144,7 @@ same-length c = kept-headers (search)
 returns-3 : tie.Need-returns-3
 returns-3 c =
     let start = start-before-read-headers (search) in
-    headers-stop (text-at start) (parts-at start) (parts-are start) (lent-at start) _ _ (said (search)) (omega (arith, the tie.Else2 (search) .if2)) (headers-read (search) .answered) (c .if3 .taken)
+    headers-stop (reader-at start) (text-at start) (parts-at start) (parts-are start) (lent-at start) _ _ (said (search)) (omega (arith, the tie.Else2 (search) .if2)) (headers-read (search) .answered) (c .if3 .taken)
 
 sub-read-contents : tie.Need-sub-read-contents
 sub-read-contents c =
@@ -176,7 +180,7 @@ returns-4 : tie.Need-returns-4
 returns-4 c =
     let start = start-before-read-headers (search) in
     let h = headers-are (search) in
-    contents-stop (text-at start) (parts-at start) (parts-are start) (lent-at start) _ _ (said (else1-before-read-headers (search))) (omega (arith, else2-before-read-headers (search) .if2)) (h .0) (h .1) (contents-read (search) .answered) (c .if4 .taken)
+    contents-stop (reader-at start) (text-at start) (parts-at start) (parts-are start) (lent-at start) _ _ (said (else1-before-read-headers (search))) (omega (arith, else2-before-read-headers (search) .if2)) (h .0) (h .1) (contents-read (search) .answered) (c .if4 .taken)
 
 measure-body-requires : tie.Need-measure-body-requires
 measure-body-requires c κs = (places (start-before-read-headers (search)) .within, start-before-read-headers (search) .pre .short)
@@ -196,7 +200,7 @@ returns-5 c =
     let h = headers-are (search) in
     let k = contents-are (search) in
     let read = contents-read (search) in
-    body-decides (text-at start) (parts-at start) (parts-are start) (lent-at start) _ _ (said (else1-before-measure-body (search))) (omega (arith, else2-before-measure-body (search) .if2)) (h .0) (h .1) (k .0) (k .1)
+    body-decides (reader-at start) (text-at start) (parts-at start) (parts-are start) (lent-at start) _ _ (said (else1-before-measure-body (search))) (omega (arith, else2-before-measure-body (search) .if2)) (h .0) (h .1) (k .0) (k .1)
     (by-same _ (the tie.After-read-contents (search) .read-contents .last .1 .1 .0) (start .args .head .now) _ _ _ (k .0) (kept-contents (search)) (the tie.After-measure-body (search) .measure-body .ensures (the tie.After-read-contents (search) .read-contents .last .1 .1 .0) (k .0) (read .held (k .0) (k .1))))
 
 pub read-sections-spec : {M : Type 1} → statement M

@@ -3,6 +3,7 @@ use mathlib.Core.Path.{sym, ap, subst, _∙_}
 use lib.ListN.{length}
 use borrow.Author.Needs.{needs}
 use Rattle.format.specs.Reading.{textParts, readWith}
+use Rattle.format.specs.ReadingRfc.{lineReader}
 use Rattle.format.specs.Lending.{numbersOf}
 use Rattle.format.specs.declared.Answer.{Answer}
 use Rattle.format.proofs.Steps.{refused-accepted}
@@ -10,7 +11,7 @@ use Rattle.read_split.specs.TextJudged.{Judged}
 use Rattle.read_split.proofs.TextJudged.{refusal, three, parts-stand}
 use Rattle.format.proofs.Typed.{the}
 use Rattle.read.specs.declared.HeadAnswer.{HeadAnswer}
-use Rattle.read.specs.Heads.{readHead, headNumbers}
+use Rattle.read.specs.Heads.{readHeadWith, headNumbers}
 use Rattle.read.specs.Outcome.{BodyStands}
 use Rattle.read.proofs.Outcomes.{by-stopped}
 use Rattle.read.proofs.Endings.{text-refused, body-read, placed-same}
@@ -23,7 +24,7 @@ read-sections-requires c κs =
     subst (Judged (start .args .text .now)) (the tie.After-judgement2 (search) .judgement2 .given .1) (the tie.After-judge (search) .judge .ensures)
 
 returns : tie.Need-returns
-unfolding readHead readWith
+unfolding readHeadWith readWith
 returns c =
     let start : tie.Start = search in
     let t = start .args .text .now in
@@ -33,7 +34,7 @@ returns c =
     let r = refusal (textParts t) _ judged in (
       by-stopped _ _ _ (textParts t) _ (ap headNumbers answer ∙ ap numbersOf no ∙ judged .answered)
           (λ z. judged .refusing (ap (λ (q : Answer). q .number) (sym no) ∙ ap (λ (q : HeadAnswer). q .number) (sym answer) ∙ z)),
-      λ m h. refused-accepted (r .0) m (sym (text-refused t (length (start .args .head .now)) (r .0) (r .1)) ∙ h),
+      λ m h. refused-accepted (r .0) m (sym (text-refused (lineReader (start .args .manner)) t (length (start .args .head .now)) (r .0) (r .1)) ∙ h),
     )
 
 returns-2 : tie.Need-returns-2
@@ -48,7 +49,7 @@ returns-2 c =
           (record {
             separated = stands .separated;
             within = three _ _ _ _ _ _ _ _ stands .within;
-            behind = body-read t (length (start .args .head .now)) _ (parts-stand _ _ _ _ _ _ _ _ stands) m h;
+            behind = body-read (lineReader (start .args .manner)) t (length (start .args .head .now)) _ (parts-stand _ _ _ _ _ _ _ _ stands) m h;
           }),
     )
 

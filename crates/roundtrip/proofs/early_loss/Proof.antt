@@ -7,19 +7,19 @@ use Rattle.roundtrip.proofs.Halves.{no-header, a-param, no-text, a-type
 use Rattle.roundtrip.proofs.early_loss.Statement.{statement}
 use Rattle.roundtrip.proofs.early_loss.Tie as tie
 
-count-passing-requires : tie.Need-count-passing-requires
-count-passing-requires c κs = the tie.Start (search) .pre .0
+params-passing-requires : tie.Need-params-passing-requires
+params-passing-requires c κs = (the tie.Start (search) .pre .0, the tie.Start (search) .pre .1)
 
-count-passing-requires-2 : tie.Need-count-passing-requires-2
-count-passing-requires-2 c κs = the tie.Start (search) .pre .1
+count-passing-requires : tie.Need-count-passing-requires
+count-passing-requires c κs = the tie.Start (search) .pre .2
 
 returns : tie.Need-returns
 returns c =
     let args = the tie.Start (search) .args in
     λ xs ys lx ly.
     c .lost .ensures
-    ∙ no-header (args .hs .now) (args .cs .now) (args .headers) (args .contents) xs ys lx ly (args .body .now)
-    (the tie.After-count-passing (search) .count-passing .result) (the tie.After-is-utf8 (search) .is-utf8 .result) (the tie.After-count-passing2 (search) .count-passing2 .result) (the tie.After-count-passing (search) .count-passing .ensures) (the tie.After-is-utf8 (search) .is-utf8 .ensures) (the tie.After-count-passing2 (search) .count-passing2 .ensures)
+    ∙ no-header (args .manner) (args .hs .now) (args .cs .now) (args .headers) (args .contents) xs ys lx ly (args .body .now)
+    (the tie.After-params-passing (search) .params-passing .result) (the tie.After-is-utf8 (search) .is-utf8 .result) (the tie.After-count-passing (search) .count-passing .result) (the tie.After-params-passing (search) .params-passing .ensures xs lx) (the tie.After-is-utf8 (search) .is-utf8 .ensures) (the tie.After-count-passing (search) .count-passing .ensures)
     (the tie.Then1 (search) .if1 .taken)
 
 returns-2 : tie.Need-returns-2
@@ -27,8 +27,8 @@ returns-2 c =
     let args = the tie.Start (search) .args in
     λ xs ys lx ly.
     c .lost2 .ensures
-    ∙ a-param (args .hs .now) (args .cs .now) (args .headers) (args .contents) xs ys lx ly (args .body .now)
-    (the tie.After-count-passing (search) .count-passing .result) (the tie.After-is-utf8 (search) .is-utf8 .result) (the tie.After-count-passing2 (search) .count-passing2 .result) (the tie.After-count-passing (search) .count-passing .ensures) (the tie.After-is-utf8 (search) .is-utf8 .ensures) (the tie.After-count-passing2 (search) .count-passing2 .ensures)
+    ∙ a-param (args .manner) (args .hs .now) (args .cs .now) (args .headers) (args .contents) xs ys lx ly (args .body .now)
+    (the tie.After-params-passing (search) .params-passing .result) (the tie.After-is-utf8 (search) .is-utf8 .result) (the tie.After-count-passing (search) .count-passing .result) (the tie.After-params-passing (search) .params-passing .ensures xs lx) (the tie.After-is-utf8 (search) .is-utf8 .ensures) (the tie.After-count-passing (search) .count-passing .ensures)
     (the tie.Else1 (search) .if1 .left) (the tie.Then2 (search) .if2 .taken)
 
 returns-3 : tie.Need-returns-3
@@ -36,8 +36,8 @@ returns-3 c =
     let args = the tie.Start (search) .args in
     λ xs ys lx ly.
     c .lost3 .ensures
-    ∙ no-text (args .hs .now) (args .cs .now) (args .headers) (args .contents) xs ys lx ly (args .body .now)
-    (the tie.After-count-passing (search) .count-passing .result) (the tie.After-is-utf8 (search) .is-utf8 .result) (the tie.After-count-passing2 (search) .count-passing2 .result) (the tie.After-count-passing (search) .count-passing .ensures) (the tie.After-is-utf8 (search) .is-utf8 .ensures) (the tie.After-count-passing2 (search) .count-passing2 .ensures)
+    ∙ no-text (args .manner) (args .hs .now) (args .cs .now) (args .headers) (args .contents) xs ys lx ly (args .body .now)
+    (the tie.After-params-passing (search) .params-passing .result) (the tie.After-is-utf8 (search) .is-utf8 .result) (the tie.After-count-passing (search) .count-passing .result) (the tie.After-params-passing (search) .params-passing .ensures xs lx) (the tie.After-is-utf8 (search) .is-utf8 .ensures) (the tie.After-count-passing (search) .count-passing .ensures)
     (the tie.Else1 (search) .if1 .left) (the tie.Else2 (search) .if2 .left) (not-true _ (the tie.Then3 (search) .if3 .taken))
 
 returns-4 : tie.Need-returns-4
@@ -45,8 +45,8 @@ returns-4 c =
     let args = the tie.Start (search) .args in
     λ xs ys lx ly.
     c .lost4 .ensures
-    ∙ a-type (args .hs .now) (args .cs .now) (args .headers) (args .contents) xs ys lx ly (args .body .now)
-    (the tie.After-count-passing (search) .count-passing .result) (the tie.After-is-utf8 (search) .is-utf8 .result) (the tie.After-count-passing2 (search) .count-passing2 .result) (the tie.After-count-passing (search) .count-passing .ensures) (the tie.After-is-utf8 (search) .is-utf8 .ensures) (the tie.After-count-passing2 (search) .count-passing2 .ensures)
+    ∙ a-type (args .manner) (args .hs .now) (args .cs .now) (args .headers) (args .contents) xs ys lx ly (args .body .now)
+    (the tie.After-params-passing (search) .params-passing .result) (the tie.After-is-utf8 (search) .is-utf8 .result) (the tie.After-count-passing (search) .count-passing .result) (the tie.After-params-passing (search) .params-passing .ensures xs lx) (the tie.After-is-utf8 (search) .is-utf8 .ensures) (the tie.After-count-passing (search) .count-passing .ensures)
     (the tie.Else1 (search) .if1 .left) (the tie.Else2 (search) .if2 .left) (not-false _ (the tie.Else3 (search) .if3 .left)) (the tie.Then4 (search) .if4 .taken)
 
 returns-5 : tie.Need-returns-5
@@ -54,12 +54,12 @@ returns-5 c =
     let args = the tie.Start (search) .args in
     λ xs ys lx ly.
     c .lost5 .ensures
-    ∙ early-none (args .hs .now) (args .cs .now) (args .headers) (args .contents) xs ys lx ly (args .body .now)
-    (the tie.After-count-passing (search) .count-passing .result) (the tie.After-is-utf8 (search) .is-utf8 .result) (the tie.After-count-passing2 (search) .count-passing2 .result) (the tie.After-count-passing (search) .count-passing .ensures) (the tie.After-is-utf8 (search) .is-utf8 .ensures) (the tie.After-count-passing2 (search) .count-passing2 .ensures)
+    ∙ early-none (args .manner) (args .hs .now) (args .cs .now) (args .headers) (args .contents) xs ys lx ly (args .body .now)
+    (the tie.After-params-passing (search) .params-passing .result) (the tie.After-is-utf8 (search) .is-utf8 .result) (the tie.After-count-passing (search) .count-passing .result) (the tie.After-params-passing (search) .params-passing .ensures xs lx) (the tie.After-is-utf8 (search) .is-utf8 .ensures) (the tie.After-count-passing (search) .count-passing .ensures)
     (the tie.Else1 (search) .if1 .left) (the tie.Else2 (search) .if2 .left) (not-false _ (the tie.Else3 (search) .if3 .left)) (the tie.Else4 (search) .if4 .left)
 
 pub early-loss-spec : {M : Type 1} → statement M
 early-loss-spec =
     tie.close
-    (tie.spec count-passing-requires (λ c κs. search needs) count-passing-requires-2 (λ c κs. search needs) returns (λ c κs. search needs) returns-2
+    (tie.spec params-passing-requires (λ c κs. search needs) count-passing-requires (λ c κs. search needs) returns (λ c κs. search needs) returns-2
     (λ c κs. search needs) returns-3 (λ c κs. search needs) returns-4 (λ c κs. search needs) returns-5)

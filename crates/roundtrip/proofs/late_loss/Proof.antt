@@ -7,20 +7,20 @@ use Rattle.roundtrip.proofs.Halves.{a-name, a-content, the-type, late-n
 use Rattle.roundtrip.proofs.late_loss.Statement.{statement}
 use Rattle.roundtrip.proofs.late_loss.Tie as tie
 
-count-passing-requires : tie.Need-count-passing-requires
-count-passing-requires c κs = the tie.Start (search) .pre .0
+names-passing-requires : tie.Need-names-passing-requires
+names-passing-requires c κs = the tie.Start (search) .pre .0
 
-count-passing-requires-2 : tie.Need-count-passing-requires-2
-count-passing-requires-2 c κs = the tie.Start (search) .pre .1
+count-passing-requires : tie.Need-count-passing-requires
+count-passing-requires c κs = the tie.Start (search) .pre .1
 
 returns : tie.Need-returns
 returns c =
     let args = the tie.Start (search) .args in
     λ xs ys lx ly.
     c .lost .ensures
-    ∙ a-name (args .hs .now) (args .cs .now) (args .headers) (args .contents) xs ys lx ly (args .kind .now)
-    (the tie.After-count-passing (search) .count-passing .result) (the tie.After-count-passing2 (search) .count-passing2 .result) (the tie.After-clear-ends (search) .clear-ends .result)
-    (the tie.After-count-passing (search) .count-passing .ensures) (the tie.After-count-passing2 (search) .count-passing2 .ensures) (the tie.After-clear-ends (search) .clear-ends .ensures)
+    ∙ a-name (args .manner) (args .hs .now) (args .cs .now) (args .headers) (args .contents) xs ys lx ly (args .kind .now)
+    (the tie.After-names-passing (search) .names-passing .result) (the tie.After-count-passing (search) .count-passing .result) (the tie.After-clear-ends (search) .clear-ends .result)
+    (the tie.After-names-passing (search) .names-passing .ensures xs lx) (the tie.After-count-passing (search) .count-passing .ensures) (the tie.After-clear-ends (search) .clear-ends .ensures)
     (the tie.Then1 (search) .if1 .taken)
 
 returns-2 : tie.Need-returns-2
@@ -28,9 +28,9 @@ returns-2 c =
     let args = the tie.Start (search) .args in
     λ xs ys lx ly.
     c .lost2 .ensures
-    ∙ a-content (args .hs .now) (args .cs .now) (args .headers) (args .contents) xs ys lx ly (args .kind .now)
-    (the tie.After-count-passing (search) .count-passing .result) (the tie.After-count-passing2 (search) .count-passing2 .result) (the tie.After-clear-ends (search) .clear-ends .result)
-    (the tie.After-count-passing (search) .count-passing .ensures) (the tie.After-count-passing2 (search) .count-passing2 .ensures) (the tie.After-clear-ends (search) .clear-ends .ensures)
+    ∙ a-content (args .manner) (args .hs .now) (args .cs .now) (args .headers) (args .contents) xs ys lx ly (args .kind .now)
+    (the tie.After-names-passing (search) .names-passing .result) (the tie.After-count-passing (search) .count-passing .result) (the tie.After-clear-ends (search) .clear-ends .result)
+    (the tie.After-names-passing (search) .names-passing .ensures xs lx) (the tie.After-count-passing (search) .count-passing .ensures) (the tie.After-clear-ends (search) .clear-ends .ensures)
     (the tie.Else1 (search) .if1 .left) (the tie.Then2 (search) .if2 .taken)
 
 returns-3 : tie.Need-returns-3
@@ -38,9 +38,9 @@ returns-3 c =
     let args = the tie.Start (search) .args in
     λ xs ys lx ly.
     c .lost3 .ensures
-    ∙ the-type (args .hs .now) (args .cs .now) (args .headers) (args .contents) xs ys lx ly (args .kind .now)
-    (the tie.After-count-passing (search) .count-passing .result) (the tie.After-count-passing2 (search) .count-passing2 .result) (the tie.After-clear-ends (search) .clear-ends .result)
-    (the tie.After-count-passing (search) .count-passing .ensures) (the tie.After-count-passing2 (search) .count-passing2 .ensures) (the tie.After-clear-ends (search) .clear-ends .ensures)
+    ∙ the-type (args .manner) (args .hs .now) (args .cs .now) (args .headers) (args .contents) xs ys lx ly (args .kind .now)
+    (the tie.After-names-passing (search) .names-passing .result) (the tie.After-count-passing (search) .count-passing .result) (the tie.After-clear-ends (search) .clear-ends .result)
+    (the tie.After-names-passing (search) .names-passing .ensures xs lx) (the tie.After-count-passing (search) .count-passing .ensures) (the tie.After-clear-ends (search) .clear-ends .ensures)
     (the tie.Else1 (search) .if1 .left) (the tie.Else2 (search) .if2 .left) (not-true _ (the tie.Then3 (search) .if3 .taken))
 
 returns-4 : tie.Need-returns-4
@@ -48,13 +48,13 @@ returns-4 c =
     let args = the tie.Start (search) .args in
     λ xs ys lx ly.
     c .lost4 .ensures
-    ∙ late-none (args .hs .now) (args .cs .now) (args .headers) (args .contents) xs ys lx ly (args .kind .now)
-    (the tie.After-count-passing (search) .count-passing .result) (the tie.After-count-passing2 (search) .count-passing2 .result) (the tie.After-clear-ends (search) .clear-ends .result)
-    (the tie.After-count-passing (search) .count-passing .ensures) (the tie.After-count-passing2 (search) .count-passing2 .ensures) (the tie.After-clear-ends (search) .clear-ends .ensures)
+    ∙ late-none (args .manner) (args .hs .now) (args .cs .now) (args .headers) (args .contents) xs ys lx ly (args .kind .now)
+    (the tie.After-names-passing (search) .names-passing .result) (the tie.After-count-passing (search) .count-passing .result) (the tie.After-clear-ends (search) .clear-ends .result)
+    (the tie.After-names-passing (search) .names-passing .ensures xs lx) (the tie.After-count-passing (search) .count-passing .ensures) (the tie.After-clear-ends (search) .clear-ends .ensures)
     (the tie.Else1 (search) .if1 .left) (the tie.Else2 (search) .if2 .left) (not-false _ (the tie.Else3 (search) .if3 .left))
 
 pub late-loss-spec : {M : Type 1} → statement M
 late-loss-spec =
     tie.close
-    (tie.spec count-passing-requires count-passing-requires-2 (λ c κs. search needs) (λ c κs. search needs) returns
+    (tie.spec names-passing-requires count-passing-requires (λ c κs. search needs) (λ c κs. search needs) returns
     (λ c κs. search needs) returns-2 (λ c κs. search needs) returns-3 (λ c κs. search needs) returns-4)

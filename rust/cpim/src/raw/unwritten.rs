@@ -4,34 +4,38 @@
 //! crates/format/specs/Lending.antt, of which `laid` speaks of all the bytes that are needed, the zeros behind the type among them. A function that
 //! did not write them could not keep that for every store that it may be lent.
 
-use super::{cpim_parse, cpim_parse_head, cpim_read_body, cpim_to_string, Answer, HeadAnswer, Record};
+use super::{cpim_read_body, cpim_to_string, Answer, HeadAnswer, Reading, Record};
 use std::mem::MaybeUninit;
 
-/// [`parse_head`](super::parse_head), and what it wrote: the bytes of the head store that the message takes.
-pub(crate) fn parse_head_into<'a>(text: &[u8], head: &'a mut [MaybeUninit<u8>]) -> (HeadAnswer, &'a [u8]) {
-    // SAFETY: as in raw.rs.
-    let answer = unsafe { cpim_parse_head(text.as_ptr(), text.len(), head.as_mut_ptr().cast(), head.len()) };
-    let need = if answer.number == 0 { answer.record.need() } else { 0 };
-    // SAFETY: `laid` in `ReadInto`.
-    (answer, unsafe { written(head, need) })
-}
+impl Reading {
+    /// [`parse_head`](super::parse_head), and what it wrote: the bytes of the head store that the message takes.
+    pub(crate) fn parse_head_into<'a>(self, text: &[u8], head: &'a mut [MaybeUninit<u8>]) -> (HeadAnswer, &'a [u8]) {
+        // SAFETY: as in raw.rs.
+        let answer = unsafe { (self.parse_head)(text.as_ptr(), text.len(), head.as_mut_ptr().cast(), head.len()) };
+        let need = if answer.number == 0 { answer.record.need() } else { 0 };
+        // SAFETY: `laid` in `ReadInto`.
+        (answer, unsafe { written(head, need) })
+    }
 
-/// [`parse`](super::parse) with a body store of so many bytes, and what it wrote: the bytes of the head store that the message takes, and the
-/// body.
-pub(crate) fn parse_into<'a>(
-    text: &[u8],
-    head: &'a mut [MaybeUninit<u8>],
-    room: usize,
-) -> (Answer<Record>, &'a [u8], Vec<u8>) {
-    let mut body = Vec::with_capacity(room);
-    let (t, h) = (text, head);
-    // SAFETY: as in raw.rs.
-    let answer = unsafe { cpim_parse(t.as_ptr(), t.len(), h.as_mut_ptr().cast(), h.len(), body.as_mut_ptr(), room) };
-    let (need, len) = if answer.number == 0 { (answer.record.need(), answer.record.bodylen.min(room)) } else { (0, 0) };
-    // SAFETY: `laid` and `stored` in `ReadInto`.
-    unsafe {
-        body.set_len(len);
-        (answer, written(h, need), body)
+    /// [`parse`](super::parse) with a body store of so many bytes, and what it wrote: the bytes of the head store that the message takes, and
+    /// the body.
+    pub(crate) fn parse_into<'a>(
+        self,
+        text: &[u8],
+        head: &'a mut [MaybeUninit<u8>],
+        room: usize,
+    ) -> (Answer<Record>, &'a [u8], Vec<u8>) {
+        let mut body = Vec::with_capacity(room);
+        let (t, h, b) = (text, head, body.as_mut_ptr());
+        // SAFETY: as in raw.rs.
+        let answer = unsafe { (self.parse)(t.as_ptr(), t.len(), h.as_mut_ptr().cast(), h.len(), b, room) };
+        let (need, len) =
+            if answer.number == 0 { (answer.record.need(), answer.record.bodylen.min(room)) } else { (0, 0) };
+        // SAFETY: `laid` and `stored` in `ReadInto`.
+        unsafe {
+            body.set_len(len);
+            (answer, written(h, need), body)
+        }
     }
 }
 

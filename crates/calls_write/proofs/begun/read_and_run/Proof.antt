@@ -1,5 +1,6 @@
 -- `calls_write::begun::read_and_run` meets its contract: what it calls ensures the steps of the list. Assumes nothing.
 use mathlib.Core.Path.{refl}
+use Rattle.format.specs.declared.Manner.the-variants.{Source}
 use borrow.Author.Needs.{needs}
 use Rattle.calls_script.specs.Script.{state}
 use Rattle.format.proofs.Typed.{the}
@@ -27,7 +28,7 @@ returns-2 c = (
     ran = (λ z. the tie.After-run (search) .run .ensures .0, λ z. absurd (z refl));
   },
   begun-held _ _ _ _ _ _ (the tie.After-parse-cpim (search) .parse-cpim .ensures .answered) (the tie.Else1 (search) .if1 .left)
-      (λ m h. list-held-reading (the tie.Start (search) .args .text .now) (the tie.Start (search) .args .head .now) (the tie.Start (search) .args .body .now) (state _ _ _) (state _ _ _) _ m _ (the tie.After-parse-cpim (search) .parse-cpim .ensures) h (the tie.After-run (search) .run .ensures .0)),
+      (λ m h. list-held-reading Source (the tie.Start (search) .args .text .now) (the tie.Start (search) .args .head .now) (the tie.Start (search) .args .body .now) (state _ _ _) (state _ _ _) _ m _ (the tie.After-parse-cpim (search) .parse-cpim .ensures) h (the tie.After-run (search) .run .ensures .0)),
 )
 
 pub read-and-run-spec : {M : Type 1} → statement M

@@ -10,8 +10,10 @@ use borrow.Author.Needs.{needs}
 use Rattle.format.specs.Bytes.{Bytes, pieces, split}
 use Rattle.format.specs.Refusals.{Out}
 use Rattle.format.specs.Message.{Message}
-use Rattle.format.specs.Reading.{readHeader, readHeaderLine}
+use Rattle.format.specs.Reading.{readHeaderLine}
+use Rattle.format.specs.ReadingRfc.{lineReader}
 use Rattle.format.specs.Lending.{headLent, lengths}
+use Rattle.format.proofs.Texts.RfcLine.{lineReader-valid}
 use Rattle.format.proofs.Typed.{the}
 use Rattle.read.proofs.HeaderSectionLine.{header-line-valid}
 use Rattle.message_edit.proofs.MessageBounds.{part-is}
@@ -22,18 +24,18 @@ use Rattle.read.proofs.section_lines.read_headers.Statement.{statement}
 use Rattle.read.proofs.section_lines.read_headers.Tie as tie
 
 abbrev Inv-loop : tie.InvT-loop
-Inv-loop section head₀ params₀ crlf so-far₀ at₀ head params so-far at =
-    (SoFar (readHeaderLine readHeader (lengths (headLent so-far₀ head₀))) (lineEndFor crlf) section so-far₀ head₀ at so-far head) × (length params ≡ length params₀)
+Inv-loop manner section head₀ params₀ crlf so-far₀ at₀ head params so-far at =
+    (SoFar (readHeaderLine (lineReader manner) (lengths (headLent so-far₀ head₀))) (lineEndFor crlf) section so-far₀ head₀ at so-far head) × (length params ≡ length params₀)
 
 abbrev μ-loop : tie.MeasureT-loop
-μ-loop section head₀ params₀ crlf so-far₀ at₀ head params so-far at = length section - at
+μ-loop manner section head₀ params₀ crlf so-far₀ at₀ head params so-far at = length section - at
 
 -- what the loop began with
 abbrev section-at : tie.At-loop Inv-loop μ-loop → Bytes
 section-at c = the (tie.Start Inv-loop μ-loop) (search) .args .section .now
 
 abbrev step-at : tie.At-loop Inv-loop μ-loop → Bytes → Message → Out Message
-step-at c = readHeaderLine readHeader (lengths (headLent (the (tie.Start Inv-loop μ-loop) (search) .args .m) (the (tie.Start Inv-loop μ-loop) (search) .args .head .now)))
+step-at c = readHeaderLine (lineReader (the (tie.Start Inv-loop μ-loop) (search) .args .manner)) (lengths (headLent (the (tie.Start Inv-loop μ-loop) (search) .args .m) (the (tie.Start Inv-loop μ-loop) (search) .args .head .now)))
 
 abbrev end-at : tie.At-loop Inv-loop μ-loop → Bytes
 end-at c = lineEndFor (the (tie.After-crlf-lines Inv-loop μ-loop) (search) .crlf-lines .result)
@@ -59,7 +61,7 @@ next c h = next-within (the (tie.After-crlf-lines Inv-loop μ-loop) (search) .cr
 loop-holds : tie.Need-loop-holds Inv-loop μ-loop
 loop-holds c =
     let start : tie.Start Inv-loop μ-loop = search in (
-      so-far-start (readHeaderLine readHeader (lengths (headLent (start .args .m) (start .args .head .now)))) (lineEndFor (c .crlf-lines .result)) (start .args .section .now) (start .args .m) (start .args .head .now)
+      so-far-start (readHeaderLine (lineReader (start .args .manner)) (lengths (headLent (start .args .m) (start .args .head .now)))) (lineEndFor (c .crlf-lines .result)) (start .args .section .now) (start .args .m) (start .args .head .now)
           (lines-are (start .args .section .now) ∙ ap (λ (b : Bool). pieces (split (lineEndFor b) (start .args .section .now))) (sym (c .crlf-lines .ensures))) (start .pre .1 .0),
       refl,
     )
@@ -105,7 +107,7 @@ returns c =
     let a : tie.At-loop Inv-loop μ-loop = search in
     let start : tie.Start Inv-loop μ-loop = search in
     line-refused (step-at a) (end-at a) (section-at a) (start .args .m) (start .args .head .now) (a .loop .at) (a .loop .so-far) (a .loop .head) (a .loop .inv .0) (line-at k) (others-at k) (cut k) _ _ _
-    (does-same _ _ _ (readHeaderLine readHeader) _ _ _ _ (lengths-kept _ _ _ _ (a .loop .inv .0 .kept)) (part-is (a .loop .at) (the (tie.After-cut-line Inv-loop μ-loop) (search) .cut-line .result .end) (section-at a)) (the (tie.After-header-line Inv-loop μ-loop) (search) .header-line .ensures))
+    (does-same _ _ _ (readHeaderLine (lineReader (start .args .manner))) _ _ _ _ (lengths-kept _ _ _ _ (a .loop .inv .0 .kept)) (part-is (a .loop .at) (the (tie.After-cut-line Inv-loop μ-loop) (search) .cut-line .result .end) (section-at a)) (the (tie.After-header-line Inv-loop μ-loop) (search) .header-line .ensures))
     (c .if1 .taken)
 
 returns-2 : tie.Need-returns-2 Inv-loop μ-loop
@@ -114,8 +116,8 @@ returns-2 c =
     let a : tie.At-loop Inv-loop μ-loop = search in
     let start : tie.Start Inv-loop μ-loop = search in
     line-last (step-at a) (end-at a) (section-at a) (start .args .m) (start .args .head .now) (a .loop .at) (a .loop .so-far) (a .loop .head) (a .loop .inv .0) (line-at k) (others-at k) (cut k) _ _ _
-    (does-same _ _ _ (readHeaderLine readHeader) _ _ _ _ (lengths-kept _ _ _ _ (a .loop .inv .0 .kept)) (part-is (a .loop .at) (the (tie.After-cut-line Inv-loop μ-loop) (search) .cut-line .result .end) (section-at a)) (the (tie.After-header-line Inv-loop μ-loop) (search) .header-line .ensures))
-    (header-line-valid _) (the (tie.Else1 Inv-loop μ-loop) (search) .if1 .left)
+    (does-same _ _ _ (readHeaderLine (lineReader (start .args .manner))) _ _ _ _ (lengths-kept _ _ _ _ (a .loop .inv .0 .kept)) (part-is (a .loop .at) (the (tie.After-cut-line Inv-loop μ-loop) (search) .cut-line .result .end) (section-at a)) (the (tie.After-header-line Inv-loop μ-loop) (search) .header-line .ensures))
+    (header-line-valid (lineReader (start .args .manner)) (lineReader-valid (start .args .manner)) _) (the (tie.Else1 Inv-loop μ-loop) (search) .if1 .left)
     (no-others _ _ _ _ (the (tie.After-cut-line Inv-loop μ-loop) (search) .cut-line .ensures) (c .if2 .taken))
 
 add-at : tie.Need-add-at Inv-loop μ-loop
@@ -138,10 +140,10 @@ loop-again c =
     let start : tie.Start Inv-loop μ-loop = search in
     let call = header-line-before-so-far (search) .header-line in (
       line-next (step-at a) (end-at a) (section-at a) (start .args .m) (start .args .head .now) (a .loop .at) (a .loop .so-far) (a .loop .head) (a .loop .inv .0) (line-at k) (others-at k) (cut k) _ _ _
-          (does-same _ _ _ (readHeaderLine readHeader) _ _ _ _ (lengths-kept _ _ _ _ (a .loop .inv .0 .kept)) (part-is (a .loop .at) (the (tie.After-cut-line Inv-loop μ-loop) (search) .cut-line .result .end) (section-at a)) (call .ensures))
-          (header-line-valid _) (the (tie.Else1 Inv-loop μ-loop) (search) .if1 .left) _ (next k (the (tie.Else2 Inv-loop μ-loop) (search) .if2 .left) .0) (call .kept .1 .1 .0)
+          (does-same _ _ _ (readHeaderLine (lineReader (start .args .manner))) _ _ _ _ (lengths-kept _ _ _ _ (a .loop .inv .0 .kept)) (part-is (a .loop .at) (the (tie.After-cut-line Inv-loop μ-loop) (search) .cut-line .result .end) (section-at a)) (call .ensures))
+          (header-line-valid (lineReader (start .args .manner)) (lineReader-valid (start .args .manner)) _) (the (tie.Else1 Inv-loop μ-loop) (search) .if1 .left) _ (next k (the (tie.Else2 Inv-loop μ-loop) (search) .if2 .left) .0) (call .kept .1 .1 .1 .0)
           (more-others _ _ _ _ (the (tie.After-cut-line Inv-loop μ-loop) (search) .cut-line .ensures) (the (tie.Else2 Inv-loop μ-loop) (search) .if2 .left)),
-      call .kept .1 .1 .1 .0 ∙ a .loop .inv .1,
+      call .kept .1 .1 .1 .1 .0 ∙ a .loop .inv .1,
     )
 
 pub read-headers-spec : {M : Type 1} → statement M

@@ -11,21 +11,22 @@ use borrow.Author.Needs.{needs}
 use Rattle.format.specs.Bytes.{Bytes, semicolon, upTo, pieces, split}
 use Rattle.format.specs.Characters.{isUtf8}
 use Rattle.format.specs.Message.{Entry}
-use Rattle.format.specs.Reading.{each, readParam}
+use Rattle.format.specs.Reading.{each}
 use Rattle.format.proofs.Typed.{the}
 use Rattle.read_header_line.specs.Gathered.{Standing}
+use Rattle.read_header_line.specs.HeaderLine.{paramReader}
 use Rattle.read_header_line.proofs.ParamTurns.{blank-stands, part-within, part-utf8, rest-utf8, refused-there, ends-there, goes-on}
 use Rattle.read_header_line.proofs.params.read_param_parts.Statement.{statement}
 use Rattle.read_header_line.proofs.params.read_param_parts.Tie as tie
 
 abbrev Inv-loop : tie.InvT-loop
-Inv-loop parts room₀ h₀ at₀ room h at =
+Inv-loop manner parts room₀ h₀ at₀ room h at =
     (at ≤ length parts) × (length room ≡ length room₀) × (isUtf8 (drop at parts) ≡ true)
     × (ps : List Entry) × (Standing h room ps)
-    × (each readParam (pieces (split (semicolon ∷ []) parts)) [] ≡ each readParam (pieces (split (semicolon ∷ []) (drop at parts))) ps)
+    × (each (paramReader manner) (pieces (split (semicolon ∷ []) parts)) [] ≡ each (paramReader manner) (pieces (split (semicolon ∷ []) (drop at parts))) ps)
 
 abbrev μ-loop : tie.MeasureT-loop
-μ-loop parts room₀ h₀ at₀ room h at = length parts - at
+μ-loop manner parts room₀ h₀ at₀ room h at = length parts - at
 
 loop-holds : tie.Need-loop-holds Inv-loop μ-loop
 loop-holds c =
@@ -71,7 +72,7 @@ returns c =
     let parts = the (tie.Start Inv-loop μ-loop) (search) .args .parts .now in
     let l = the (tie.At-loop Inv-loop μ-loop) (search) .loop in
     let k = f .find-byte .result in
-    refused-there parts (l .at) k (found f) readParam (l .inv .3) _ (l .inv .5) (part-is parts (l .at) k) _ _
+    refused-there parts (l .at) k (found f) (paramReader (the (tie.Start Inv-loop μ-loop) (search) .args .manner)) (l .inv .3) _ (l .inv .5) (part-is parts (l .at) k) _ _
     (the (tie.After-read-param Inv-loop μ-loop) (search) .read-param .ensures (l .inv .3) (l .inv .4)) (c .if1 .taken)
 
 returns-2 : tie.Need-returns-2 Inv-loop μ-loop
@@ -80,7 +81,7 @@ returns-2 c =
     let parts = the (tie.Start Inv-loop μ-loop) (search) .args .parts .now in
     let l = the (tie.At-loop Inv-loop μ-loop) (search) .loop in
     let k = f .find-byte .result in
-    ends-there parts (l .at) k (found f) readParam (l .inv .3) _ (l .inv .5) (part-is parts (l .at) k) _ _
+    ends-there parts (l .at) k (found f) (paramReader (the (tie.Start Inv-loop μ-loop) (search) .args .manner)) (l .inv .3) _ (l .inv .5) (part-is parts (l .at) k) _ _
     (the (tie.After-read-param Inv-loop μ-loop) (search) .read-param .ensures (l .inv .3) (l .inv .4)) (omega arith)
 
 loop-less : tie.Need-loop-less Inv-loop μ-loop
@@ -93,7 +94,7 @@ loop-again c =
     let l = the (tie.At-loop Inv-loop μ-loop) (search) .loop in
     let k = f .find-byte .result in
     let g =
-    goes-on parts (l .at) k (found f) readParam (l .inv .3) _ (l .inv .5) (part-is parts (l .at) k) _ _
+    goes-on parts (l .at) k (found f) (paramReader (the (tie.Start Inv-loop μ-loop) (search) .args .manner)) (l .inv .3) _ (l .inv .5) (part-is parts (l .at) k) _ _
     (the (tie.After-read-param Inv-loop μ-loop) (search) .read-param .ensures (l .inv .3) (l .inv .4)) (omega arith) (the (tie.Else1 Inv-loop μ-loop) (search) .if1 .left) in
     (omega arith, omega arith, rest-utf8 parts (l .at) k (found f) (l .inv .2), g .0, g .1, g .2)
 

@@ -26,6 +26,9 @@ name-at-requires-2 c κs = the tie.Start (search) .pre
 content-clear-requires : tie.Need-content-clear-requires
 content-clear-requires c κs = the tie.Start (search) .pre
 
+spaceless-param-requires : tie.Need-spaceless-param-requires
+spaceless-param-requires c κs = the tie.Start (search) .pre
+
 returns : tie.Need-returns
 unfolding meets storedIn
 returns c =
@@ -50,8 +53,14 @@ returns-4 c =
     let at-enum-told4 : tie.After-enum-told4 = search in
     rw (at-enum-told4 .enum-told4 .given .1) (c .content-clear .ensures)
 
+returns-5 : tie.Need-returns-5
+unfolding meets
+returns-5 c =
+    let at-enum-told5 : tie.After-enum-told5 = search in
+    rw (at-enum-told5 .enum-told5 .given .1) (c .spaceless-param .ensures)
+
 pub meets-spec : {M : Type 1} → statement M
 meets-spec =
     tie.close
     (tie.spec (λ c. search needs) param-count-requires (λ c. search needs) name-at-requires (λ c κs. search needs) (λ c. search needs) name-at-requires-2
-    (λ c κs. search needs) (λ c. search needs) content-clear-requires returns returns-2 returns-3 returns-4)
+    (λ c κs. search needs) (λ c. search needs) content-clear-requires (λ c. search needs) spaceless-param-requires returns returns-2 returns-3 returns-4 returns-5)

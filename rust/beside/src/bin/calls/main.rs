@@ -23,6 +23,7 @@ fn add(sum: &mut Tally, t: &Tally) {
     sum.functions.iter_mut().zip(t.functions).for_each(|(a, b)| *a += b);
     sum.texts.add(&t.texts);
     sum.losses.iter_mut().zip(t.losses).for_each(|(a, b)| *a += b);
+    sum.second.iter_mut().zip(t.second).for_each(|(a, b)| *a += b);
     sum.nothing_held += t.nothing_held;
     sum.scripts += t.scripts;
     sum.looked.add(&t.looked);
@@ -87,17 +88,19 @@ fn main() {
     lists.texts.say(100_000);
     let [whole, lost @ .., free, nothing] = lists.losses;
     println!("Lost first, by clause 1 to 7: {}; nothing held: {}.", lost.map(grouped).join(", "), grouped(nothing));
+    let [no, yes] = lists.second.map(grouped);
+    println!("By the second reading {yes} messages come back, {no} do not.");
     println!("Scripts: {}.", grouped(lists.scripts));
     for (name, looked) in [("behind calls", &lists.looked), ("on damaged stores and records", &damaged.looked)] {
         println!("Lookups {name}: {}, {} places found.", grouped(looked.all()), grouped(looked.found));
     }
-    if lost.contains(&0) || whole == 0 || nothing == 0 || free != 0 {
-        eprintln!("a clause never failed first, or 8 was given: {:?}", lists.losses);
+    if lost.contains(&0) || whole == 0 || nothing == 0 || free != 0 || lists.second.contains(&0) {
+        eprintln!("a clause never failed first, or 8 was given, or all or none come back: {:?}", lists.losses);
         exit(1);
     }
     all_compared(BY_CALLS, |k| lists.functions[k]);
     let asked = lists.losses.iter().sum();
-    all_compared(BY_LISTS, |k| [asked, asked, lists.scripts][k]);
+    all_compared(BY_LISTS, |k| [asked, asked, asked, lists.scripts][k]);
     all_compared(BY_LOOKUPS, |k| lists.looked.answers[k].min(damaged.looked.answers[k]));
     let calls: u64 = all.functions.iter().sum();
     println!("The calls beside Rust: {} calls, {} lookups, no difference", grouped(calls), grouped(all.looked.all()));

@@ -4,9 +4,10 @@ use crate::lookups::{Lent, LentAlone, Looked};
 use beside::call::{Call, Function::*, Lengths};
 use beside::exports::BY_CALLS;
 use beside::layout::{decode, layout, layout_alone, need, need_alone, record, record_alone};
+use beside::manner::MANNERS;
 use beside::refusals::{Refusal, NOTHING_HELD};
 use beside::store::Store;
-use beside::whole::{comes_back, loss};
+use beside::whole::{comes_back, condition, loss};
 use beside::written::{written, Texts, Written};
 use common::Random;
 use cpim::raw::{self, Answer, HeaderRecord, Loss, Record};
@@ -15,7 +16,8 @@ use std::fmt::Debug;
 use std::process::exit;
 
 /// How often each answer was given: accepted (0), each number, 25 carrying 0 apart; how often each function was called;
-/// how many texts were written; by its number the clause that failed first, 0 where none did, 9 where nothing is held; how many scripts were run; and what was looked up.
+/// how many texts were written; by its number the clause that failed first, 0 where none did, 9 where nothing is held; how many messages do not come back
+/// by the second reading, and how many do; how many scripts were run; and what was looked up.
 #[derive(Clone, Default)]
 pub struct Tally {
     pub answers: [u64; 27],
@@ -23,6 +25,7 @@ pub struct Tally {
     pub functions: [u64; BY_CALLS.len()],
     pub texts: Texts,
     pub losses: [u64; 10],
+    pub second: [u64; 2],
     pub scripts: u64,
     pub looked: Looked,
 }
@@ -183,23 +186,25 @@ impl Stores {
         }
     }
 
-    /// What is written, whether it comes back whole, and what is lost first.
+    /// What is written, whether it comes back whole by each reading, and what is lost first.
     pub fn check_whole(&mut self) {
         let (head, body) = (self.head.bytes(self.head.room()), self.body.bytes(self.body.room()));
-        let got = (raw::comes_back(self.record, head, body), raw::loss(self.record, head, body));
+        let got = (MANNERS.map(|manner| manner.says_back(self.record, head, body)), raw::loss(self.record, head, body));
         let Some(m) = &self.message else {
-            self.same("what comes back", &got, &(false, Loss { clause: NOTHING, entry: 0 }));
+            self.same("what comes back", &got, &([false; 2], Loss { clause: NOTHING, entry: 0 }));
             self.tally.losses[NOTHING] += 1;
             return;
         };
         let due = written(m);
-        let want = (comes_back(m, &due.text), loss(m));
+        let want = (MANNERS.map(|manner| comes_back(manner, m, &due.text)), loss(m));
         self.same("what comes back", &got, &want);
-        self.same("the condition", &want.0, &(want.1.clause == 0));
+        self.same("the condition", &want.0, &MANNERS.map(|manner| condition(manner, m)));
         self.check_written(&due);
+        let [back, second] = want.0;
         self.tally.texts.compared(&due);
-        self.tally.texts.read_back(&due, want.0);
+        self.tally.texts.read_back(&due, back);
         self.tally.losses[want.1.clause] += 1;
+        self.tally.second[usize::from(second)] += 1;
     }
 
     /// The text in an output with three bytes to spare, and in one that lacks a byte.

@@ -26,23 +26,24 @@ pub fn texts(both: &mut Both) {
         for h in [1, 6, 7, 25, 26, 27, 28, 50, 51] {
             both.parse(&text(end, format!("a{params}:{value}\n").repeat(h).trim_end(), &contents(20), "b\n\nc"));
             both.parse(&text(end, format!("a{params}:{value}\n").repeat(h).trim_end(), "\u{1}:", "b\n\nc"));
+            both.parse(&text(end, format!("a:{params} {value}\n").repeat(h).trim_end(), &contents(20), "b\n\nc"));
         }
-        both.parse(&text(end, "a:b", "", &"\n".repeat(10_000)));
-        both.parse(&text(end, "a:b", &"x:\n".repeat(20_000), &"\n".repeat(1_000)));
+        both.parse(&text(end, "a: b", "", &"\n".repeat(10_000)));
+        both.parse(&text(end, "a: b", &"x:\n".repeat(20_000), &"\n".repeat(1_000)));
         // A line end is two bytes under CRLF; joined LFLF doubles.
         for len in [MOST_BODY / 2 - 1, MOST_BODY / 2, MOST_BODY / 2 + 1] {
             both.begin();
-            both.parse(&text(end, "a:b", "", &"\n".repeat(len)));
+            both.parse(&text(end, "a: b", "", &"\n".repeat(len)));
         }
     }
     // The first line end is not that of the separators.
     for body in ["", "Hi", "Hi\r\n\r\nHo\n\nHa"] {
-        both.parse(&format!("a\nmessage/cpim\r\n\r\na:b\r\n\r\nc:d\r\n\r\n{body}"));
-        both.parse(&format!("a\r\nmessage/cpim\n\na:b\n\nc:d\n\n{body}"));
+        both.parse(&format!("a\nmessage/cpim\r\n\r\na: b\r\n\r\nc:d\r\n\r\n{body}"));
+        both.parse(&format!("a\r\nmessage/cpim\n\na: b\n\nc:d\n\n{body}"));
     }
     for len in [MOST_BODY, MOST_BODY + 1, MOST_TEXT] {
         both.begin();
-        both.parse(&text("\r\n", "a:b", "", &"b".repeat(len)));
+        both.parse(&text("\r\n", "a: b", "", &"b".repeat(len)));
         for (function, first, second) in [
             (Function::New, b"text/plain".to_vec(), vec![b'n'; len]),
             (Function::SetBody, vec![b's'; len], Vec::new()),

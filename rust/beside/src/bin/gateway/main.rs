@@ -1,11 +1,13 @@
-//! The gateway's crate beside the source: lists of calls and texts, both sides through the same lines of code. Prints how many answers and how many
-//! texts were compared; the first difference ends it with a failure.
+//! The gateway's crate beside the source: lists of calls and texts, both sides through the same lines of code, and its second reading beside the
+//! request's words. Prints how many answers and how many texts were compared; the first difference ends it with a failure.
 
 mod long;
 mod side;
 
 use beside::call::Call;
+use beside::manner::{Manner, MANNERS};
 use beside::names::Kind;
+use beside::refusals::{Refusal, ANSWERS};
 use beside::written::{written, Texts};
 use beside::{damage, grammar, random_calls, refusals, whole};
 use common::{grouped, in_parts, Random};
@@ -16,6 +18,8 @@ use std::process::exit;
 const PARTS: usize = 64;
 const LISTS: usize = 200;
 const TEXTS: usize = 1_000;
+/// Texts with parameters behind the colons.
+const BEHIND: usize = 300;
 const NAMES: [&str; 8] = ["From", "To", "Subject", "a", "h1", "é", "", "Content-ID"];
 
 #[derive(Default)]
@@ -25,7 +29,8 @@ struct Both {
     /// What led to this.
     trace: Vec<String>,
     answers: u64,
-    refused: [u64; 27],
+    /// How often each answer was given: by the calls and the source's reading, and by the second one.
+    refused: [[u64; ANSWERS]; 2],
     texts: Texts,
 }
 
@@ -44,10 +49,14 @@ impl Both {
         self.answers += 1;
     }
 
+    fn count(&mut self, manner: Manner, answer: Result<(), Refusal>) {
+        self.refused[manner as usize][answer.map_or_else(|e| e.0, |()| 0) as usize] += 1;
+    }
+
     fn answered(&mut self, here: Result<(), cpim::CpimError>, there: Result<(), source::cpim::CpimError>) {
         let here = here.map_err(|e| (e.to_string(), format!("{e:?}"), (e.number(), e.carried())));
         let there = there.map_err(|e| (e.to_string(), format!("{e:?}"), refusals::number(e)));
-        self.refused[there.as_ref().map_or_else(|e| e.2 .0, |()| 0) as usize] += 1;
+        self.count(Manner::Source, there.as_ref().map_err(|e| e.2).copied());
         self.same("An answer", here, there);
     }
 
@@ -61,12 +70,14 @@ impl Both {
         let text = here.text.clone();
         self.same("What is seen", here, there);
         if let (Some(m), Some(k), Some(due)) = (&self.here.message, &self.there.message, &due) {
-            let whole = whole::comes_back(k, &due.text);
+            let [whole, second] = MANNERS.map(|manner| whole::comes_back(manner, k, &due.text));
             let read = cpim::parse_cpim(&text).as_ref() == Ok(m);
             let here = (m.comes_back(), m.loss().is_none(), read);
+            let here_second = (m.comes_back_rfc(), cpim::parse_cpim_rfc(&text).as_ref() == Ok(m));
             self.texts.compared(due);
             self.texts.read_back(due, whole);
             self.same("What comes back", here, (whole, whole, whole));
+            self.same("What comes back by the second reading", here_second, (second, second));
         }
     }
 
@@ -77,9 +88,15 @@ impl Both {
         self.look();
     }
 
+    /// By the second reading, which the source does not have, and then by its own.
     fn parse(&mut self, text: &str) {
         let shown: String = text.chars().take(3_000).collect();
         self.trace.push(format!("{shown:?} ({} bytes)", text.len()));
+        let here = self.here.read(cpim::parse_cpim_rfc(text)).map_err(|e| (e.number(), e.carried()));
+        let there = self.there.read(Manner::Rfc.parse(text));
+        self.count(Manner::Rfc, there);
+        self.same("An answer of the second reading", here, there);
+        self.look();
         let (here, there) = (self.here.parse(text), self.there.parse(text));
         self.answered(here, there);
         self.look();
@@ -101,8 +118,8 @@ fn list(both: &mut Both, random: &mut Random) {
     }
 }
 
-fn text(both: &mut Both, random: &mut Random) {
-    let mut text = grammar::text(random);
+fn text(both: &mut Both, random: &mut Random, text: fn(&mut Random) -> Vec<u8>) {
+    let mut text = text(random);
     if random.once_in(2) {
         damage::damage(random, &mut text);
     }
@@ -124,15 +141,20 @@ fn main() {
             if n < LISTS {
                 list(both, &mut random);
             } else {
-                text(both, &mut random);
+                text(both, &mut random, grammar::text);
             }
+        }
+        for n in 0..BEHIND {
+            both.begin();
+            text(both, &mut Random::new((1 << 32) + (k * BEHIND + n) as u64), grammar::text_behind);
         }
     };
     let all = in_parts(PARTS, Both::default, part);
     let answers: u64 = all.iter().map(|b| b.answers).sum();
-    let refused: Vec<u64> = (0..27).map(|k| all.iter().map(|b| b.refused[k]).sum()).collect();
-    if refused[..24].contains(&0) {
-        eprintln!("an answer was never seen: {refused:?}");
+    let [first, second] =
+        MANNERS.map(|m| (0..ANSWERS).map(|k| all.iter().map(|b| b.refused[m as usize][k]).sum()).collect::<Vec<u64>>());
+    if [&first[..24], &second[..24], &second[27..]].concat().contains(&0) {
+        eprintln!("an answer was never seen: {first:?}, by the second reading: {second:?}");
         exit(1);
     }
     let mut texts = Texts::default();

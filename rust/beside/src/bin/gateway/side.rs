@@ -40,10 +40,15 @@ macro_rules! side {
             }
 
             impl Side {
-                pub fn parse(&mut self, text: &str) -> Result<(), CpimError> {
+                /// What was read is the message.
+                pub fn read<E>(&mut self, message: Result<CpimMessage, E>) -> Result<(), E> {
                     self.before = self.message.take();
-                    self.message = Some(parse_cpim(text)?);
+                    self.message = Some(message?);
                     Ok(())
+                }
+
+                pub fn parse(&mut self, text: &str) -> Result<(), CpimError> {
+                    self.read(parse_cpim(text))
                 }
 
                 pub fn call(&mut self, call: &Call) -> Result<(), CpimError> {

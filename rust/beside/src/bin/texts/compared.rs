@@ -2,10 +2,11 @@
 
 use crate::expected::Reading;
 use crate::pattern::Pattern;
-use crate::tally::Tally;
+use crate::tally::{Tallies, Tally};
 use beside::layout::{layout, record};
+use beside::manner::Manner::{self, Rfc, Source};
 use beside::store::Store;
-use beside::whole::loss;
+use beside::whole::condition;
 use beside::written::{written, Written};
 use common::Random;
 use cpim::raw::{self, Answer, Record};
@@ -26,7 +27,7 @@ pub fn few(text: &[u8]) -> usize {
 }
 
 pub struct Compared {
-    pub tally: Tally,
+    pub tallies: Tallies,
     pub head: Store,
     pub body: Store,
     pub out: Store,
@@ -60,7 +61,7 @@ impl Compared {
         let mut random = Random::new(1);
         let most = body.max(out).max(300_000);
         let mut c = Compared {
-            tally: Tally::default(),
+            tallies: Tallies::default(),
             head: Store::new(260_000),
             body: Store::new(body),
             out: Store::new(out),
@@ -73,47 +74,76 @@ impl Compared {
         c
     }
 
+    pub fn tally(&mut self, manner: Manner) -> &mut Tally {
+        &mut self.tallies.by[manner as usize]
+    }
+
     /// All that depends on one text. What comes of `random` is the same for the same text and seed.
     pub fn text(&mut self, text: &[u8], seed: u64) {
         self.random = Random::new(seed);
         let lent = self.lend(text);
         let text = lent.bytes(text.len());
-        let reading = Reading::of(text);
-        let lengths = self.lengths(&reading, text.len() > MANY);
-        for (head, body) in &lengths {
-            self.read(text, &reading, *head, *body);
-        }
-        self.read_heads(text, &reading, &lengths);
-        let len = reading.body.as_ref().map_or(0, Vec::len);
+        let source = Reading::of(Source, text);
+        let lengths = self.lengths(&source, text.len() > MANY);
+        self.readings(text, &source, &lengths);
+        let len = source.body.as_ref().map_or(0, Vec::len);
         for buffer in [len, len.saturating_sub(1), len + self.random.below(30), 0].into_iter().take(few(text)) {
-            self.read_body(text, &reading, buffer);
+            self.read_body(text, &source, buffer);
         }
-        if let Ok(m) = &reading.answer {
-            let due = written(m);
-            self.write(text, &reading, &due);
-            self.again(m, &due);
+        self.write_and_read(text, &source, &[Source, Rfc]);
+
+        let rfc = Reading::of(Rfc, text);
+        let lengths = if self.alike(text, &source, &rfc) { lengths } else { self.lengths(&rfc, text.len() > MANY) };
+        self.readings(text, &rfc, &lengths);
+        if rfc.answer != source.answer {
+            self.write_and_read(text, &rfc, &[Rfc]);
         }
         unchanged(&lent, text);
     }
 
-    /// Reads what was written for a message: it gives that message back exactly where no clause of the condition fails.
-    fn again(&mut self, m: &CpimMessage, due: &Written) {
+    /// Where both readings make the same of every header line, they make the same of the text; whether that is so.
+    fn alike(&mut self, text: &[u8], source: &Reading, rfc: &Reading) -> bool {
+        let alike = source.lines == rfc.lines;
+        if alike && (&source.answer, &source.peaks) != (&rfc.answer, &rfc.peaks) {
+            differ("A text whose lines are read alike", &"any stores", text, &rfc.answer, &source.answer);
+        }
+        self.tallies.alike += u64::from(alike && source.answer.is_ok() && !source.lines.is_empty());
+        alike
+    }
+
+    /// One reading, in stores of these lengths.
+    fn readings(&mut self, text: &[u8], reading: &Reading, lengths: &[(usize, usize)]) {
+        for (head, body) in lengths {
+            self.read(text, reading, *head, *body);
+        }
+        self.read_heads(text, reading, lengths);
+    }
+
+    /// What was read, written, and its text read again.
+    fn write_and_read(&mut self, text: &[u8], reading: &Reading, again: &[Manner]) {
+        if let Ok(m) = &reading.answer {
+            let due = written(m);
+            self.write(text, reading, &due);
+            self.again(m, &due, again);
+        }
+    }
+
+    /// Reads what was written for a message: it gives that message back exactly under the condition of the reading.
+    fn again(&mut self, m: &CpimMessage, due: &Written, manners: &[Manner]) {
         let lent = self.lend(due.text.as_bytes());
         let text = lent.bytes(due.text.len());
-        let reading = Reading::of(text);
-        let whole = reading.answer.as_ref() == Ok(m);
-        if whole != (loss(m).clause == 0) {
-            differ("What comes back", &loss(m), text, &reading.answer, m);
+        for manner in manners {
+            let reading = Reading::of(*manner, text);
+            let whole = reading.answer.as_ref() == Ok(m);
+            if whole != condition(*manner, m) {
+                differ("What comes back", manner, text, &reading.answer, m);
+            }
+            self.tally(*manner).texts.read_back(due, whole);
+            let need = reading.peaks.last().copied().unwrap_or(256);
+            let body = reading.body.as_ref().map_or(0, Vec::len);
+            let lengths = [(need, body), (need - 1, body), (need + self.random.below(9), body + 5)];
+            self.readings(text, &reading, &lengths[..few(text).min(3)]);
         }
-        self.tally.texts.read_back(due, whole);
-        let need = reading.peaks.last().copied().unwrap_or(256);
-        let body = reading.body.as_ref().map_or(0, Vec::len);
-        let lengths = [(need, body), (need - 1, body), (need + self.random.below(9), body + 5)];
-        let lengths = &lengths[..few(text).min(3)];
-        for (head, body) in lengths {
-            self.read(text, &reading, *head, *body);
-        }
-        self.read_heads(text, &reading, lengths);
         unchanged(&lent, text);
     }
 
@@ -157,7 +187,7 @@ impl Compared {
         self.pattern.lay(&mut self.head, head);
         self.pattern.lay(&mut self.body, body);
         let expected = reading.with(head, body);
-        let got = raw::parse(text, self.head.lent(head), self.body.lent(body));
+        let got = reading.manner.read(text, self.head.lent(head), self.body.lent(body));
         let want = match expected {
             Ok(m) => {
                 let bytes = layout(m);
@@ -172,8 +202,8 @@ impl Compared {
                 Answer { number, carried, record: Record::default() }
             }
         };
-        self.tally.read[want.number as usize] += 1;
-        let lengths = ("head store", head, "body store", body);
+        self.tally(reading.manner).read[want.number as usize] += 1;
+        let lengths = (reading.manner, "head store", head, "body store", body);
         if got != want {
             differ("Reading", &lengths, text, &got, &want);
         }
@@ -197,7 +227,7 @@ impl Compared {
             }
             Err((number, carried)) => Answer { number, carried, record: 0 },
         };
-        self.tally.bodies[want.number as usize] += 1;
+        self.tally(reading.manner).bodies[want.number as usize] += 1;
         if got != want {
             differ("The body without a store", &buffer, text, &got, &want);
         }
@@ -218,6 +248,6 @@ impl Compared {
             differ("The second call for the body", &(buffer, length), text, &got, &want);
         }
         let kind = if reading.body.is_err() { 2 } else { usize::from(reading.joined) };
-        self.tally.parts[kind] += 1;
+        self.tally(reading.manner).parts[kind] += 1;
     }
 }

@@ -1,19 +1,24 @@
-//! What reading must answer, reckoned from the source: its answer with room for everything, and the room needed at each line.
+//! What a reading must answer, reckoned from the source, or from the request where the second reading departs from it: the answer with room for
+//! everything, and the room needed at each line.
 
-use beside::layout::need;
-use beside::refusals::{number, text, Refusal};
+use beside::layout::{need, need_alone};
+use beside::manner::Manner;
+use beside::refusals::{text, Refusal};
+use beside::rfc::Named;
+use beside::sections::{lines, separator, CRLFCRLF, LFLF};
 use cpim::raw::BodyPlace;
-use source::cpim::{parse_cpim, CpimMessage};
+use source::cpim::CpimMessage;
 use std::collections::BTreeMap;
 
 pub const MOST_TEXT: usize = 20_971_520;
 pub const MOST_BODY: usize = 10_485_760;
-const CRLFCRLF: &str = "\r\n\r\n";
-const LFLF: &str = "\n\n";
 
 pub struct Reading {
-    /// What the source answers; 1 and 24 come before it.
+    pub manner: Manner,
+    /// What the source answers, or the request; 1 and 24 come before it.
     pub answer: Result<CpimMessage, Refusal>,
+    /// What each header line is read as, up to the first that is refused.
+    pub lines: Vec<Result<Named, Refusal>>,
     /// The room needed at the start and after each line that needs more than all before; none where no line is read.
     pub peaks: Vec<usize>,
     /// The body without a store; `joined` where it is written to the buffer.
@@ -22,8 +27,9 @@ pub struct Reading {
 }
 
 impl Reading {
-    pub fn of(bytes: &[u8]) -> Self {
-        let refused = |e| Reading { answer: Err(e), peaks: Vec::new(), body: Err(e), joined: false };
+    pub fn of(manner: Manner, bytes: &[u8]) -> Self {
+        let refused =
+            |e| Reading { manner, answer: Err(e), lines: Vec::new(), peaks: Vec::new(), body: Err(e), joined: false };
         if bytes.len() > MOST_TEXT {
             return refused((1, bytes.len() as u64));
         }
@@ -31,20 +37,20 @@ impl Reading {
             Ok(input) => input,
             Err(e) => return refused(e),
         };
-        let separator = if input.contains(CRLFCRLF) { CRLFCRLF } else { LFLF };
-        let answer = parse_cpim(input).map_err(number);
+        let separator = separator(input);
+        let answer = manner.parse(input);
         let sections: Vec<&str> = input.splitn(4, separator).collect();
         let [_, headers, contents, rest] = sections[..] else { return refused(answer.unwrap_err()) };
         let body = rest.split(separator).collect::<Vec<_>>().join(CRLFCRLF).into_bytes();
-        let mut peaks = Vec::new();
+        let (mut lines, mut peaks) = (Vec::new(), Vec::new());
         if answer.as_ref().err() != Some(&(3, 0)) {
-            let mut room = Room { need: 256, peaks: vec![256], headers: 0, contents: BTreeMap::new() };
-            let stopped = room.lines(headers, contents).err();
+            let mut room = Room { need: 256, peaks: vec![256], headers: Vec::new(), contents: BTreeMap::new() };
+            let stopped = room.lines(manner, headers, contents).err();
             room.agrees(&answer, stopped, &body);
-            peaks = room.peaks;
+            (lines, peaks) = (room.headers, room.peaks);
         }
         let body = if body.len() > MOST_BODY { Err((23, body.len() as u64)) } else { Ok(body) };
-        Reading { answer, peaks, body, joined: separator == LFLF }
+        Reading { manner, answer, lines, peaks, body, joined: separator == LFLF }
     }
 
     /// What must be answered with stores of these lengths.
@@ -80,26 +86,27 @@ impl Reading {
     }
 }
 
-/// The room that the lines need, each read by the source by itself.
+/// The room that the lines need, each read by itself.
 struct Room {
     need: usize,
     peaks: Vec<usize>,
-    headers: usize,
+    headers: Vec<Result<Named, Refusal>>,
     contents: BTreeMap<String, usize>,
 }
 
 impl Room {
-    fn lines(&mut self, headers: &str, contents: &str) -> Result<(), Refusal> {
+    fn lines(&mut self, manner: Manner, headers: &str, contents: &str) -> Result<(), Refusal> {
         for (first, line) in lines(headers) {
-            let m = alone(&format!("message/cpim{CRLFCRLF}{first}{line}{CRLFCRLF}{CRLFCRLF}"))?;
-            if self.headers == 50 {
+            let read = manner.header_line(first, line);
+            self.headers.push(read.clone());
+            let (name, header) = read?;
+            if self.headers.len() > 50 {
                 return Err((20, 51));
             }
-            self.headers += 1;
-            self.grow(need(&m) - 256, 0);
+            self.grow(name.len() + need_alone(&header), 0);
         }
         for (first, line) in lines(contents) {
-            let m = alone(&format!("message/cpim{CRLFCRLF}{CRLFCRLF}{first}{line}{CRLFCRLF}"))?;
+            let m = Manner::Source.parse(&format!("message/cpim{CRLFCRLF}{CRLFCRLF}{first}{line}{CRLFCRLF}"))?;
             let Some(name) = m.content_headers().keys().next() else { continue };
             if self.contents.len() == 20 {
                 return Err((22, 21));
@@ -118,7 +125,7 @@ impl Room {
         }
     }
 
-    /// The lines one by one come to what the source makes of the whole text.
+    /// The lines one by one come to what is made of the whole text.
     fn agrees(&self, answer: &Result<CpimMessage, Refusal>, stopped: Option<Refusal>, body: &[u8]) {
         match answer {
             Ok(m) => {
@@ -128,14 +135,4 @@ impl Room {
             Err(e) => assert_eq!(stopped, Some(*e), "the line that is refused"),
         }
     }
-}
-
-/// The lines of a section that are not empty. Where they end in CRLF one comes first, so that a line alone is cut in the same way.
-fn lines(section: &str) -> impl Iterator<Item = (&'static str, &str)> {
-    let (end, first) = if section.contains("\r\n") { ("\r\n", "\r\n") } else { ("\n", "") };
-    section.split(end).filter(|line| !line.is_empty()).map(move |line| (first, line))
-}
-
-fn alone(text: &str) -> Result<CpimMessage, Refusal> {
-    parse_cpim(text).map_err(number)
 }

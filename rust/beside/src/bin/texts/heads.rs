@@ -3,7 +3,7 @@
 use crate::compared::{differ, Compared};
 use crate::expected::Reading;
 use beside::layout::{layout, record};
-use cpim::raw::{self, HeadAnswer, Record};
+use cpim::raw::{HeadAnswer, Record};
 
 impl Compared {
     /// In head stores of the lengths that were lent to reading, once each.
@@ -17,15 +17,15 @@ impl Compared {
     fn read_head(&mut self, text: &[u8], reading: &Reading, head: usize) {
         self.pattern.lay(&mut self.head, head);
         let before = self.head.bytes(head).to_vec();
-        let got = raw::parse_head(text, self.head.lent(head));
+        let got = reading.manner.read_head(text, self.head.lent(head));
         let want = match reading.with(head, usize::MAX) {
             Ok(m) => {
                 let start = if reading.joined { 0 } else { text.len() - m.body().len() };
                 if !reading.joined && text[start..] != *m.body() {
                     differ("The place of the body", &head, text, &start, &m.body().len());
                 }
-                self.tally.left[usize::from(reading.joined)] += 1;
-                let left = self.left_by_parse(text, before, m.body().len());
+                self.tally(reading.manner).left[usize::from(reading.joined)] += 1;
+                let left = self.left_by_reading(text, reading, before);
                 self.head.must(&left);
                 self.head.must(&layout(m));
                 HeadAnswer { number: 0, carried: 0, record: record(m), in_text: !reading.joined, start }
@@ -35,18 +35,20 @@ impl Compared {
                 HeadAnswer { number, carried, record: Record::default(), in_text: false, start: 0 }
             }
         };
-        self.tally.heads[want.number as usize] += 1;
+        self.tally(reading.manner).heads[want.number as usize] += 1;
+        let with = (reading.manner, head);
         if got != want {
-            differ("Reading that leaves the body in its place", &head, text, &got, &want);
+            differ("Reading that leaves the body in its place", &with, text, &got, &want);
         }
         if let Some((places, here, there)) = self.head.differences(head) {
-            differ(&format!("Its head store at {places:?}"), &head, text, &here, &there);
+            differ(&format!("Its head store at {places:?}"), &with, text, &here, &there);
         }
     }
 
     /// What reading with a body store leaves in the same head store, behind the message too.
-    fn left_by_parse(&mut self, text: &[u8], mut head: Vec<u8>, body: usize) -> Vec<u8> {
-        raw::parse(text, &mut head, self.body.lent(body));
+    fn left_by_reading(&mut self, text: &[u8], reading: &Reading, mut head: Vec<u8>) -> Vec<u8> {
+        let body = reading.body.as_ref().map_or(0, Vec::len);
+        reading.manner.read(text, &mut head, self.body.lent(body));
         head
     }
 }

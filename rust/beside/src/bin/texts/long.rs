@@ -55,6 +55,6 @@ pub fn texts(c: &mut Compared, part: usize, _: bool) {
     if let Some(maker) = makers().get(part) {
         let mut large = Compared::new(MOST_BODY + 100, MOST_BODY + 1_000);
         large.text(&maker(), part as u64);
-        c.tally.add(&large.tally);
+        c.tallies.add(&large.tallies);
     }
 }

@@ -76,6 +76,17 @@ pub fn content_lines(c: &mut Compared, part: usize, long: bool) {
     );
 }
 
+/// What stands behind the colon of a header line: parameters, the space and the value.
+pub fn behind_colons(c: &mut Compared, part: usize, long: bool) {
+    let letters =
+        [";", "=", " ", ":", "\t", "\u{a0}", "\"", "\u{7f}", "\\'", "\\u+041", "\\u0041", "a", ";p=q", "é", "p="];
+    let frames = [
+        ["message/cpim\r\n\r\nTo:", "\r\n\r\nContent-type: a\r\n\r\nHi"],
+        ["message/cpim\n\nB: x\n To :;", " y\n\nx: y\n\n"],
+    ];
+    each(c, part, &letters, if long { 5 } else { 4 }, &frames);
+}
+
 /// Values with escapes, whole and broken.
 pub fn escapes(c: &mut Compared, part: usize, long: bool) {
     let letters = ["\\", "u", "0", "+", "d", "8", "n", "\"", "é", "'", " ", "\u{85}", "A"];
