@@ -44,17 +44,17 @@ pub extern "C" fn cpim_parse_rfc(text: &[u8], head: &mut [u8], body: &mut [u8]) 
 }
 
 #[no_mangle]
-pub extern "C" fn cpim_parse_head_rfc(text: &[u8], head: &mut [u8]) -> HeadAnswer
-    ensures { λ r. ⌜ HeadParsedWith readHeaderRfc (now (text .entry)) (headLent emptyMessage (now (head .entry))) (headLent (r .message) (now (head .exit))) r ⌝ }
-{
-    read::parse_head_rfc(text, head)
-}
-
-#[no_mangle]
 pub extern "C" fn cpim_parse_head(text: &[u8], head: &mut [u8]) -> HeadAnswer
     ensures { λ r. ⌜ HeadParsed (now (text .entry)) (headLent emptyMessage (now (head .entry))) (headLent (r .message) (now (head .exit))) r ⌝ }
 {
     read::parse_head(text, head)
+}
+
+#[no_mangle]
+pub extern "C" fn cpim_parse_head_rfc(text: &[u8], head: &mut [u8]) -> HeadAnswer
+    ensures { λ r. ⌜ HeadParsedWith readHeaderRfc (now (text .entry)) (headLent emptyMessage (now (head .entry))) (headLent (r .message) (now (head .exit))) r ⌝ }
+{
+    read::parse_head_rfc(text, head)
 }
 
 #[no_mangle]

@@ -1,5 +1,5 @@
 -- Demand 3: a run of calls goes on holding the message that they define, and record and stores hold no other. It is within limits and
--- validators, so both directions of reading back are RoundTrip and OnlyIf. Assumes nothing.
+-- validators, so both directions of reading back are those of SourceRoundTrip, by Exact. Assumes nothing.
 use Prim.Native.Nat.{ℕ, _≤_}
 use mathlib.Core.Path.{_≡_, refl, ap, _∙_}
 use mathlib.Core.Bool.{true}

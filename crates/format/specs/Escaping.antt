@@ -1,5 +1,5 @@
--- Document 01, "Escaping" (RFC 3862 section 2.3), and document 02, T-03: how the ends of a header value are written. Escapes are read in
--- two manners, the source's and the RFC's. The source is stricter: \' is refused. And laxer: \u takes a plus sign and three digits.
+-- Document 01, "Escaping" (RFC 3862 section 2.3), and document 02: how the ends of a header value are written (T-03), and escapes read in two
+-- manners, the source's and the RFC's (T-01). The source is stricter: \' is refused. And laxer: \u takes a plus sign and three digits.
 -- Assumes nothing.
 use Prim.Native.Nat.{ℕ, zero, suc, _+_, _-_, _*_, _/_, _%_}
 use mathlib.Core.Bool.{_&&_}
@@ -152,8 +152,10 @@ unescapeFrom r zero (b ∷ s) =
     if eqb b backslash then escaped (escapeAt r s) (unescapeFrom r (takesOf (escapeAt r s)) s) else inFront (b ∷ []) (unescapeFrom r zero s)
 unescapeFrom r (suc k) (b ∷ s) = unescapeFrom r k s
 
+-- what a text reads as in a manner
 abbrev pub unescapeBy : Manner → Bytes → Option Bytes
 unescapeBy r s = unescapeFrom r 0 s
 
+-- and in the source's
 abbrev pub unescape : Bytes → Option Bytes
 unescape s = unescapeBy Source s

@@ -1,6 +1,7 @@
 -- Document 02, T-01: the second reading of a header line, with parameters where RFC 3862 (section 3.6) puts them: the name up to the first
 -- colon, untrimmed, then parameters, one space, and the value, untrimmed. Sections, lines and the content part are those of `readWith`.
--- Assumes nothing.
+-- Stricter than the RFC: quoted parameter values are refused (16). Laxer: names and parameter values are any UTF-8 that the validators let
+-- pass, a parameter value may be empty, and controls may stand raw in a value. Assumes nothing.
 use mathlib.Core.Bool.{Bool, not, _||_}
 use mathlib.Core.List.{List, [], _∷_}
 use Rattle.format.specs.Bytes.{Bytes, colon, semicolon, equals, space, begins, has, upTo, past, split}

@@ -1,4 +1,5 @@
--- Document 01, "Refusals by number": the table, with 27 and 28 of document 02, T-01, and the answer of a call that is accepted or refused. Assumes nothing.
+-- Document 01, "Refusals by number": the table, with 27 and 28 of document 02, T-01, and the answer of a call that is accepted or refused.
+-- Assumes nothing.
 use Prim.Native.Nat.{ℕ, _-_, _^_, min}
 use mathlib.Core.Bool.{Bool, true, false, not}
 use lib.Dec.{leb}

@@ -45,7 +45,7 @@ pub struct HeaderAnswer {
     pub header: CpimHeader,
 }
 
-// Whose escapes a header value is read by: the source's, or RFC 3862's.
+// By which reading a header line is read: the source's, or the second, with parameters and escapes as RFC 3862 has them.
 pub enum Manner {
     Source,
     Rfc,

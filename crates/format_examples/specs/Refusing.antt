@@ -1,4 +1,5 @@
--- Document 01, "Refusals by number": the example of each row of the table, document 02's two with them, and the limits at and one past; proved in proofs/Refusing.antt. Assumes nothing.
+-- Document 01, "Refusals by number": the example of each row of the table, document 02's two with them, and the limits at and one past; proved
+-- in proofs/Refusing.antt. Assumes nothing.
 use Prim.Native.Nat.{ℕ}
 use mathlib.Core.Path.{_≡_}
 use mathlib.Core.List.{List, [], _∷_, _++_}

@@ -20,6 +20,7 @@ use Rattle.read.specs.declared.HeadAnswer.{HeadAnswer}
 unfoldable pub anyBody : ℕ → Stores
 anyBody head = record { head = head; body = maxBody }
 
+-- a reading by any reader of a header line, with such stores
 unfoldable pub readHeadWith : (Bytes → Out Header) → Bytes → ℕ → Out Message
 readHeadWith reader t head = readWith reader t (anyBody head)
 

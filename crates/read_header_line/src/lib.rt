@@ -7,7 +7,7 @@ mod parts;
 mod values;
 
 use crate::params::read_params;
-use crate::parts::lacks_space;
+use crate::parts::misplaced_by;
 use crate::parts::name_of;
 use crate::parts::params_of;
 use crate::parts::space_at;
@@ -71,7 +71,7 @@ fn scan_front(
     if n.number != 0 {
         return no_params(n.number, n.carried);
     }
-    if lacks_space(manner, right, at) {
+    if misplaced_by(manner, right, at) {
         return no_params(28, 0);
     }
     read_params(manner, front, stop, room)

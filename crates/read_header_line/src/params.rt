@@ -80,13 +80,13 @@ fn read_param_parts(manner: Manner, parts: &[u8], room: &mut [u8]) -> HeaderAnsw
 }
 
 // The parameters of a text, which stand behind its first stop bytes. Without a `;` there are none, and the room is left as it is.
-pub fn read_params(manner: Manner, left: &[u8], stop: usize, room: &mut [u8]) -> HeaderAnswer
-    requires stops { ⌜ stop ≡ length (upTo semicolon (now left)) ⌝ }
+pub fn read_params(manner: Manner, front: &[u8], stop: usize, room: &mut [u8]) -> HeaderAnswer
+    requires stops { ⌜ stop ≡ length (upTo semicolon (now front)) ⌝ }
     requires enough { ⌜ 3376 ≤ length (now room) ⌝ }
-    requires text { ⌜ isUtf8 (now left) ≡ true ⌝ }
-    ensures { λ r. ⌜ Yields (headerNumbers r) (each (paramReader manner) ((split (semicolon ∷ []) (now (left .entry))) .rest) []) (Gathered (r .header) (now (room .exit))) ⌝ }
+    requires text { ⌜ isUtf8 (now front) ≡ true ⌝ }
+    ensures { λ r. ⌜ Yields (headerNumbers r) (each (paramReader manner) ((split (semicolon ∷ []) (now (front .entry))) .rest) []) (Gathered (r .header) (now (room .exit))) ⌝ }
 {
-    if left.len() <= stop {
+    if front.len() <= stop {
         return HeaderAnswer {
             number: 0,
             carried: 0,
@@ -98,5 +98,5 @@ pub fn read_params(manner: Manner, left: &[u8], stop: usize, room: &mut [u8]) ->
         };
     }
     let next = stop + 1;
-    read_param_parts(manner, &left[next..], room)
+    read_param_parts(manner, &front[next..], room)
 }

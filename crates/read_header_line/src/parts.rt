@@ -74,7 +74,7 @@ fn misplaced(right: &[u8], at: usize) -> bool
 }
 
 // Whether 28 is due.
-pub fn lacks_space(manner: Manner, right: &[u8], at: usize) -> bool
+pub fn misplaced_by(manner: Manner, right: &[u8], at: usize) -> bool
     requires { ⌜ at ≡ spaceBy manner (now right) ⌝ }
     ensures { λ r. ⌜ r ≡ misplacedBy manner (now (right .entry)) ⌝ }
 {

@@ -20,7 +20,7 @@ use Rattle.store_entries.proofs.Sequences.{entries-length}
 use Rattle.store_entries.proofs.Layouts.{headers-read, contents-read, contents-shaped}
 use Rattle.lookup_nth.specs.Listed.{Listed}
 use Rattle.roundtrip.specs.Clauses.{meets, paramsStand, storedSpaceless, passing}
-use Rattle.roundtrip.specs.declared.clauses.Clause.the-variants.{NoParam, NotType, ClearName, ClearContent, Spaceless}
+use Rattle.roundtrip.specs.declared.clauses.Clause.the-variants.{NoParam, NotType, ClearName, ClearContent, SpacelessParam}
 
 module _ {A : Type 0} (p : A → Bool) where
   pub passing-nil : passing p [] ≡ 0
@@ -87,7 +87,7 @@ none-counted (e ∷ es) = ne-eqb (length (e ∷ es)) 0 (λ h. absurd (omega arit
 stored-spaceless : (h : Header) → storedSpaceless (storedHeader h) ≡ spaceless h
 unfolding storedSpaceless storedHeader spaceless meets storedEntry
 stored-spaceless h =
-    ap (all (meets Spaceless)) (contents-read (h .params)) ∙ all-map storedEntry (meets Spaceless) spacelessParam (λ e. refl) (h .params)
+    ap (all (meets SpacelessParam)) (contents-read (h .params)) ∙ all-map storedEntry (meets SpacelessParam) spacelessParam (λ e. refl) (h .params)
 
 -- the parameters of the entry that s begins with, by how many of them pass
 module _ (s tail : Bytes) (n : ℕ) (ne : n ≡ paramCount s) (te : tail ≡ tailIn s) where
@@ -95,10 +95,10 @@ module _ (s tail : Bytes) (n : ℕ) (ne : n ≡ paramCount s) (te : tail ≡ tai
   unfolding paramsStand storedIn
   params-stand h = rw (ne, te) h
 
-  pub params-counted : leb n (passing (meets Spaceless) (entriesIn n tail)) ≡ storedSpaceless (storedIn s)
+  pub params-counted : leb n (passing (meets SpacelessParam) (entriesIn n tail)) ≡ storedSpaceless (storedIn s)
   unfolding storedSpaceless storedIn
   params-counted =
-      all-counted (meets Spaceless) (entriesIn n tail) n (sym (entries-length n tail)) ∙ (λ i. all (meets Spaceless) (entriesIn (ne i) (te i)))
+      all-counted (meets SpacelessParam) (entriesIn n tail) n (sym (entries-length n tail)) ∙ (λ i. all (meets SpacelessParam) (entriesIn (ne i) (te i)))
 
 pub stored-stand : (hs : List Header) → all paramsStand (map storedHeader hs) ≡ true
 unfolding all paramsStand storedHeader

@@ -11,7 +11,7 @@ use Rattle.format.specs.Demand3.{notType, clearName, clearContent}
 use Rattle.format.specs.SecondReading.{spacelessParam}
 use Rattle.store_entries.specs.Stored.{Stored, shapedAll, entriesIn}
 use Rattle.roundtrip.specs.declared.clauses.Clause.{Clause}
-use Rattle.roundtrip.specs.declared.clauses.Clause.the-variants.{NoParam, NotType, ClearName, ClearContent, Spaceless}
+use Rattle.roundtrip.specs.declared.clauses.Clause.the-variants.{NoParam, NotType, ClearName, ClearContent, SpacelessParam}
 
 -- name and value of an entry as it is stored
 abbrev pub asEntry : Stored → Entry
@@ -27,7 +27,7 @@ meets NoParam e = eqb (e .params) 0
 meets NotType e = notType (asEntry e)
 meets ClearName e = clearName (asHeader e)
 meets ClearContent e = clearContent (asEntry e)
-meets Spaceless e = spacelessParam (asEntry e)
+meets SpacelessParam e = spacelessParam (asEntry e)
 
 -- behind the entry's value stand its parameters, one behind another
 unfoldable pub paramsStand : Stored → Bool
@@ -35,7 +35,7 @@ paramsStand e = shapedAll (e .params) (e .tail)
 
 -- none of its parameters has a space
 unfoldable pub storedSpaceless : Stored → Bool
-storedSpaceless e = all (meets Spaceless) (entriesIn (e .params) (e .tail))
+storedSpaceless e = all (meets SpacelessParam) (entriesIn (e .params) (e .tail))
 
 -- how many stand before the first that fails the test; all where none does
 unfoldable pub passing : {A : Type 0} → (A → Bool) → List A → ℕ

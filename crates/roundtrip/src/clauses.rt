@@ -24,7 +24,7 @@ pub enum Clause {
     NotType,
     ClearName,
     ClearContent,
-    Spaceless,
+    SpacelessParam,
 }
 
 // Content-type in any ASCII case.
@@ -76,7 +76,7 @@ fn meets(clause: Clause, s: &[u8], at: usize) -> bool
         Clause::NotType => !is_type(name_at(s, at)),
         Clause::ClearName => clear_ends(name_at(s, at)),
         Clause::ClearContent => content_clear(s, at),
-        Clause::Spaceless => spaceless_param(s, at),
+        Clause::SpacelessParam => spaceless_param(s, at),
     }
 }
 
@@ -103,7 +103,7 @@ fn spaceless(s: &[u8], at: usize) -> bool
     ensures { λ r. ⌜ r ≡ storedSpaceless (storedIn (drop at (now (s .entry)))) ⌝ }
 {
     let count = param_count(s, at);
-    count <= count_passing(Clause::Spaceless, tail_at(s, at), count)
+    count <= count_passing(Clause::SpacelessParam, tail_at(s, at), count)
 }
 
 // How many entries stand before the first that has a space in a parameter; all of them where there is none.

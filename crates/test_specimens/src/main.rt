@@ -2,20 +2,25 @@
 // through the compiled functions: each text is read, and what was read is written again. A line for each: its name, the refusal's number
 // and what it carries; behind an accepted one the text that is written. The file `stdout` is what the documents say.
 
+mod second_reading;
+
+use crate::second_reading::escapes_read;
+use crate::second_reading::messages_back;
+use crate::second_reading::params_checked;
+use crate::second_reading::params_read;
+use crate::second_reading::spaces_misplaced;
 use format::CpimMessage;
 use io::print_decimal;
 use io::write_all;
 use octets::copy_at;
 use read::parse_cpim;
-use read::parse_cpim_rfc;
 use read_split::body_part;
 use read_split::read_body;
 use roundtrip::comes_back;
-use roundtrip::comes_back_rfc;
 use write::to_string;
 
 // The bytes of s at a place of a text, where there is room for them; the place behind them.
-fn add(text: &mut [u8], at: usize, s: &[u8]) -> usize {
+pub fn add(text: &mut [u8], at: usize, s: &[u8]) -> usize {
     if text.len() < at {
         return at;
     }
@@ -38,7 +43,7 @@ fn add_times(text: &mut [u8], at: usize, s: &[u8], n: usize) -> usize {
 }
 
 // The first n bytes, all of them where there are fewer.
-fn first<'a>(s: &'a [u8], n: usize) -> &'a [u8] {
+pub fn first<'a>(s: &'a [u8], n: usize) -> &'a [u8] {
     if s.len() < n {
         let all = s.len();
         return &s[..all];
@@ -46,7 +51,7 @@ fn first<'a>(s: &'a [u8], n: usize) -> &'a [u8] {
     &s[..n]
 }
 
-fn print_numbers(name: &[u8], number: u64, carried: u64) {
+pub fn print_numbers(name: &[u8], number: u64, carried: u64) {
     write_all(1, name);
     write_all(1, b" ");
     print_decimal(1, number);
@@ -354,125 +359,6 @@ fn ends() {
     spaces();
 }
 
-// What both readings answer to a text: the first, then the second.
-fn print_both(name: &[u8], text: &[u8]) {
-    let mut head = [0u8; 16384];
-    let mut body = [0u8; 64];
-    let one = parse_cpim(text, &mut head, &mut body);
-    let two = parse_cpim_rfc(text, &mut head, &mut body);
-    write_all(1, name);
-    write_all(1, b": ");
-    print_decimal(1, one.number);
-    write_all(1, b" ");
-    print_decimal(1, one.carried);
-    print_numbers(b",", two.number, two.carried);
-}
-
-// A header line by both readings.
-fn line(header: &[u8]) {
-    let mut text = [0u8; 1024];
-    let mut at = add(&mut text, 0, b"Content-type: Message/CPIM\r\n\r\n");
-    at = add(&mut text, at, header);
-    at = add(&mut text, at, b"\r\n\r\nContent-type: text/plain\r\n\r\nHi");
-    print_both(header, first(&text, at));
-}
-
-// 28: what stands behind the colon.
-fn spaces_misplaced() {
-    line(b"Subject: Hi");
-    line(b"Subject: ");
-    line(b"Subject:Hi");
-    line(b"Subject:");
-    line(b"Subject:\tHi you");
-    line(b"Subject:\xc2\xa0Hi you");
-    line(b"Subject:;lang=en");
-    line(b"=:x");
-    line(b"Subject;lang=en: Hi");
-}
-
-// 27, and the checks of parameters behind it.
-fn params_by_rfc() {
-    line(b"Subject:;lang=en Hi");
-    line(b"Subject:;a= Hi");
-    line(b"Subject:;a==b Hi");
-    line(b"Subject:;a=b:c Hi");
-    line(b"Subject:; Hi");
-    line(b"Subject:;a Hi");
-    line(b"Subject:;a=b; Hi");
-    line(b"Subject:;a b=c Hi");
-}
-
-fn param_checks_by_rfc() {
-    line(b"Subject:;=b Hi");
-    line(b"Subject:;a;=b Hi");
-    line(b"Subject:;=b;a Hi");
-    line(b"Subject:;a=\"x\" Hi");
-    line(b"Subject:;a=;b=;c=;d=;e=;f=;g=;h=;i=;j= Hi");
-    line(b"Subject:;a=;b=;c=;d=;e=;f=;g=;h=;i=;j=;k= Hi");
-    line(b"Subject:;a=;b=;c=;d=;e=;f=;g=;h=;i=;j=;a= Hi");
-}
-
-fn escapes_by_rfc() {
-    line(b"Subject: \\'x");
-    line(b"Subject: \\u+041");
-    line(b"Subject: \\ud800");
-}
-
-// A line by the second reading, and what was read, written again.
-fn read_by_rfc(name: &[u8], header: &[u8]) {
-    let mut text = [0u8; 1024];
-    let mut at = add(&mut text, 0, b"Content-type: Message/CPIM\r\n\r\n");
-    at = add(&mut text, at, header);
-    at = add(&mut text, at, b"\r\n\r\nContent-type: text/plain\r\n\r\nHi");
-    let mut head = [0u8; 1024];
-    let mut body = [0u8; 2];
-    let a = parse_cpim_rfc(first(&text, at), &mut head, &mut body);
-    print_numbers(name, a.number, a.carried);
-    print_text(a.message, &head, &body);
-}
-
-fn read_again() {
-    read_by_rfc(b"T-01 last wins", b"Subject:;b=1;a=2;b=3 Hi");
-    read_by_rfc(b"T-01 spaces", b" Subject :  Hi ");
-    read_by_rfc(b"T-01 first space", b"Subject:;a=b c Hi");
-    read_by_rfc(b"T-01 apostrophe", b"Subject: \\'x\\'");
-}
-
-// A subject with a parameter, written and read by the second reading.
-fn with_param(name: &[u8], param: &[u8], value: &[u8]) {
-    let mut head = [0u8; 1024];
-    let mut body = [0u8; 2];
-    let m = message::new(b"text/plain", b"Hi", &mut head, &mut body);
-    let mut store = [0u8; 256];
-    let made = header::new(b"Umbrella", &mut store);
-    let set = header::with_param(made.header, &mut store, param, value);
-    let held = message_add_obj::add_header_obj(
-        m.message,
-        &mut head,
-        b"Subject",
-        set.header,
-        &store,
-    );
-    print_back_rfc(name, held.message, &head, &body);
-}
-
-fn print_back_rfc(name: &[u8], m: CpimMessage, head: &[u8], body: &[u8]) {
-    write_all(1, name);
-    if comes_back_rfc(m, head, body) {
-        write_all(1, b" comes back");
-    } else {
-        write_all(1, b" does not come back");
-    }
-    write_all(1, b"\n");
-    let mut out = [0u8; 1024];
-    let n = to_string(m, head, body, &mut out);
-    let mut head2 = [0u8; 1024];
-    let mut body2 = [0u8; 2];
-    let a = parse_cpim_rfc(first(&out, n.length), &mut head2, &mut body2);
-    print_numbers(name, a.number, a.carried);
-    print_text(a.message, &head2, &body2);
-}
-
 fn main() {
     texts_refused();
     lines_refused();
@@ -492,10 +378,8 @@ fn main() {
     messages();
     ends();
     spaces_misplaced();
-    params_by_rfc();
-    param_checks_by_rfc();
-    escapes_by_rfc();
-    read_again();
-    with_param(b"T-01 depot", b"depot", b"north");
-    with_param(b"T-01 space", b"depot", b"north 4");
+    params_read();
+    params_checked();
+    escapes_read();
+    messages_back();
 }

@@ -1,4 +1,4 @@
-// Document 01, "Escaping": one escape behind its backslash, and which code point it stands for.
+// Document 01, "Escaping", and document 02, T-01: one escape behind its backslash, and which code point it stands for.
 
 use crate::digits::four_digits;
 use format::Manner;

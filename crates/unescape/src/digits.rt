@@ -1,4 +1,4 @@
-// Document 01, "Escaping": the number behind `\u`, by its digits.
+// Document 01, "Escaping", and document 02, T-01: the number behind `\u`, by its digits.
 
 use format::Manner;
 ghost use mathlib.Core.Path.{_≡_};

@@ -1,4 +1,4 @@
-// Document 01, "Escaping": a header value as it is read in either manner, in two steps: the length, for which the caller
+// Document 01, "Escaping", and document 02, T-01: a header value as it is read in either manner, in two steps: the length, for which the caller
 // lends the room, and the bytes. The stretches between backslashes are read as they are, and each escape as the character
 // that it stands for.
 

@@ -64,7 +64,7 @@ use crate::raw::{self, text, HeadAnswer, Pair};
 use std::fmt;
 
 /// A message in lent stores. Its body stands in a store that may be written, or, where `B` is `&[u8]`, as it was found by
-/// [`parse_in_place`](Message::parse_in_place).
+/// [`parse_in_place`](Message::parse_in_place) or [`parse_in_place_rfc`](Message::parse_in_place_rfc).
 pub struct Message<'a, B = &'a mut [u8]> {
     record: Record,
     head: &'a mut [u8],

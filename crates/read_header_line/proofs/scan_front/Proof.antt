@@ -25,15 +25,15 @@ returns c =
 passed : (c : tie.Else1) → passes (headerName (the tie.Start (search) .args .name .now)) ≡ true
 passed c = zero-passes _ _ (the tie.After-validate-header-name (search) .validate-header-name .ensures) (c .if1 .left)
 
-lacks-space-requires : tie.Need-lacks-space-requires
-lacks-space-requires c κs = the tie.Start (search) .pre .0
+misplaced-by-requires : tie.Need-misplaced-by-requires
+misplaced-by-requires c κs = the tie.Start (search) .pre .0
 
 returns-2 : tie.Need-returns-2
 returns-2 c =
     let args = the tie.Start (search) .args in
     λ left is-name is-front.
     space-refused (args .manner) left (args .right .now) (args .name .now) (args .front .now) is-name is-front _ _ (passed (search))
-    (sym (the tie.After-lacks-space (search) .lacks-space .ensures) ∙ the tie.Then2 (search) .if2 .taken) (ap headerNumbers (the tie.After-no-params2 (search) .no-params2 .ensures))
+    (sym (the tie.After-misplaced-by (search) .misplaced-by .ensures) ∙ the tie.Then2 (search) .if2 .taken) (ap headerNumbers (the tie.After-no-params2 (search) .no-params2 .ensures))
 
 read-params-requires : tie.Need-read-params-requires
 read-params-requires c κs = the tie.Start (search) .pre .1
@@ -43,10 +43,10 @@ returns-3 c =
     let args = the tie.Start (search) .args in
     λ left is-name is-front.
     params-read (args .manner) left (args .right .now) (args .name .now) (args .front .now) is-name is-front _ _ (passed (search))
-    (sym (the tie.After-lacks-space (search) .lacks-space .ensures) ∙ the tie.Else2 (search) .if2 .left) (the tie.After-read-params (search) .read-params .ensures)
+    (sym (the tie.After-misplaced-by (search) .misplaced-by .ensures) ∙ the tie.Else2 (search) .if2 .left) (the tie.After-read-params (search) .read-params .ensures)
 
 pub scan-front-spec : {M : Type 1} → statement M
 scan-front-spec =
     tie.close
-    (tie.spec (λ c κs. search needs) (λ c κs. search needs) returns lacks-space-requires (λ c κs. search needs) returns-2 read-params-requires
+    (tie.spec (λ c κs. search needs) (λ c κs. search needs) returns misplaced-by-requires (λ c κs. search needs) returns-2 read-params-requires
     (λ c. search needs) returns-3)
