@@ -56,7 +56,7 @@ pub record SecondReading : Type 0 where
       comesBackRfc m ≡ true →
       comesBackRfc k ≡ true →
       (write m ≡ write k) ↔ (m ≡ k)
-  -- An accepted second reading begins a list of calls, so what is said of lists that begin so is not said of nothing.
+  -- An accepted second reading begins a list of calls, so the claims about such lists are not empty.
   pub begins-rfc : (s : State) (t : Bytes) (m : Message) → readRfc t (lengths (lend true s)) ≡ accepted m → (u : State) × Begun (lengths (lend true s)) u m
   -- A message that comes back by the first reading comes back by the second, so partners lose none by going over to it.
   pub wider : (m : Message) → comesBack m ≡ true → comesBackRfc m ≡ true

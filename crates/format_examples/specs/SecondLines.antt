@@ -109,8 +109,10 @@ pub record InOrder : Type 0 where
   pub reserved : Reads (ascii "=:x") (refused nameReserved) (refused nameReserved)
   pub space : readHeaderRfc (ascii "a:;b") ≡ refused lacksSpace
   pub equals : readHeaderRfc (ascii "a:;b;=c \\") ≡ refused paramLacksEquals
+  pub bare : readHeaderRfc (ascii "a:; c") ≡ refused paramLacksEquals
   pub turn : readHeaderRfc (ascii "a:;=b;c \\") ≡ refused paramNameEmpty
-  -- 13 before 14 before 15 before 16 before 21
+  -- 12 before 15; 13 before 14 before 15 before 16 before 21
+  pub unnamed : readHeaderRfc (ascii "a:;=" ++ (letters 257 ++ ascii " c")) ≡ refused paramNameEmpty
   pub nameLength : readHeaderRfc (ascii "a:;\"" ++ (letters 64 ++ ascii "=b c")) ≡ refused (paramNameTooLong 65)
   pub nameBytes : readHeaderRfc (ascii "a:;\"b=" ++ (letters 257 ++ ascii " c")) ≡ refused paramNameReserved
   pub valueLength : readHeaderRfc (ascii "a:;b=\"" ++ (letters 256 ++ ascii " c")) ≡ refused (paramValueTooLong 257)
@@ -120,6 +122,7 @@ pub record InOrder : Type 0 where
   pub escape : readHeaderRfc (ascii "a: \\" ++ letters 1025) ≡ refused badEscape
   pub long : readRfc (notice (texts (λ c. c ∷ ascii ": b\r\n") (letters 50) ++ (ascii "a: " ++ letters 1025)) []) roomy ≡ refused (valueTooLong 1025)
   pub headers : readRfc (notice (texts (λ c. c ∷ ascii ": b\r\n") (letters 51)) []) (record { head = 1156; body = 9 }) ≡ refused (tooManyHeaders 51)
+  -- 25, the last of all, alone
   pub room : readRfc (notice (ascii "a:;b=c d") []) (record { head = 291; body = 9 }) ≡ refused (noRoom 292)
 
 -- What is written is read back whole.

@@ -1,6 +1,6 @@
-// Document 01's examples and specimens, the ends of header values (document 02, T-03) and header lines by the second reading (T-01),
-// through the compiled functions: each text is read, and what was read is written again. A line for each: its name, the refusal's number
-// and what it carries; behind an accepted one the text that is written. The file `stdout` is what the documents say.
+// Document 01's examples and specimens and the ends of header values (document 02, T-03), through the compiled functions: each text is
+// read, and what was read is written again. A line for each: its name, the refusal's number and what it carries; behind an accepted one
+// the text that is written. Then header lines by both readings (T-01, `second_reading`). The file `stdout` is what the documents say.
 
 mod second_reading;
 
@@ -51,7 +51,7 @@ pub fn first<'a>(s: &'a [u8], n: usize) -> &'a [u8] {
     &s[..n]
 }
 
-pub fn print_numbers(name: &[u8], number: u64, carried: u64) {
+fn print_numbers(name: &[u8], number: u64, carried: u64) {
     write_all(1, name);
     write_all(1, b" ");
     print_decimal(1, number);

@@ -23,8 +23,13 @@ fn print_pair(number: u64, carried: u64) {
 // The value of the Subject in brackets, and its first parameter, where there is one.
 fn print_subject(m: CpimMessage, head: &[u8]) {
     let mut found = false;
+    let value = get_header(m, head, b"Subject", &mut found);
+    if !found {
+        write_all(1, b" no Subject");
+        return;
+    }
     write_all(1, b" [");
-    write_all(1, get_header(m, head, b"Subject", &mut found));
+    write_all(1, value);
     write_all(1, b"]");
     let name = get_param_name(m, head, b"Subject", 0, 0, &mut found);
     if found {
