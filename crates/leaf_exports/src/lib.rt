@@ -5,12 +5,12 @@ ghost use mathlib.Core.List.{map};
 ghost use mathlib.Core.Bool.{true};
 ghost use Prim.Native.Nat.{_+_, _*_, _^_, _<_, _≤_};
 ghost use lib.ListN.{length, take, drop, replicate};
-ghost use Rattle.format.specs.Bytes.{pasted, same, before, occurs, upTo, lower, sameLetters};
+ghost use Rattle.format.specs.Bytes.{LFLF, pasted, same, before, occurs, pieces, split, upTo, lower, sameLetters};
 ghost use Rattle.format.specs.Characters.{isUtf8, isWhite, isControl, replaced, trim};
 ghost use Rattle.format.specs.Escaping.{escape, valueText, unescape};
 ghost use Rattle.format.specs.Limits.{maxText};
 ghost use Rattle.unescape.specs.Reads.{measured, valueOf};
-ghost use Rattle.sections.specs.Body.{joined};
+ghost use Rattle.sections.specs.Body.{joined, bodyParts, filled};
 ghost use Rattle.sections.specs.Place.{place};
 
 #[no_mangle]
@@ -149,11 +149,12 @@ pub extern "C" fn leaves_joined_len(rest: &[u8]) -> usize
 }
 
 #[no_mangle]
-pub extern "C" fn leaves_join_into(out: &mut [u8], rest: &[u8])
-    requires { ⌜ 0 + length (joined (now rest)) ≤ length (now out) ⌝ }
-    ensures { λ _. ⌜ now (out .exit) ≡ pasted 0 (joined (now (rest .entry))) (now (out .entry)) ⌝ }
+pub extern "C" fn leaves_join_body(out: &mut [u8], rest: &[u8]) -> usize
+    requires { ⌜ length (now rest) ≤ maxText ⌝ }
+    ensures length { λ r. ⌜ r ≡ length (joined (now (rest .entry))) ⌝ }
+    ensures bytes { λ _. ⌜ now (out .exit) ≡ filled 0 (bodyParts (pieces (split LFLF (now (rest .entry))))) (now (out .entry)) ⌝ }
 {
-    sections::bodies::join_into(out, 0, rest)
+    sections::bodies::join_body(out, rest)
 }
 
 #[no_mangle]

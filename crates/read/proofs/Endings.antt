@@ -1,192 +1,178 @@
--- What `parse_head` and `parse_cpim` ensure, by what reading has done in the head store, for any reader of a header line. Assumes nothing.
-use Prim.Native.Nat.{ℕ, _-_, _≤_, _<_}
+-- What `parse_head` and `parse_cpim` ensure, by what the lines of a text give and by its body, for any reader of a header line. Assumes nothing.
+use Prim.Native.Nat.{ℕ, suc, _+_, _-_, _^_, _≤_, _<_}
 use mathlib.Core.Path.{_≡_, refl, sym, ap, subst, _∙_}
 use mathlib.Core.Bool.{Bool, true, false, true≢false}
+use mathlib.Core.Logic.{⊎-elim}
 use mathlib.Core.Option.{some}
 use native.Mathlib.Omega.{arith}
-use lib.ListN.{length, drop, length-drop}
-use Rattle.format.specs.Bytes.{Bytes, if_then_else_, over}
-use Rattle.format.specs.Limits.{maxBody}
-use Rattle.format.specs.Refusals.{Refusal, Out, accepted, refused, numbers, _>>_, _>>=_}
+use lib.Dec.{ltb}
+use lib.ListN.{length, drop, replicate, length-drop}
+use borrow.Author.Tests.{ltb-true, ltb-false}
+use Rattle.format.specs.Bytes.{Bytes, if_then_else_, LFLF, pieces, split, over}
+use Rattle.format.specs.Limits.{maxBody, maxText}
+use Rattle.format.specs.Refusals.{Refusal, bodyTooLong, tooShort, table, Out, accepted, refused, numbers, _>>=_}
 use Rattle.format.specs.Message.{Header, Message}
-use Rattle.format.specs.Calls.{enough, bodyLength, setBody, withBody}
-use Rattle.format.specs.Reading.{Parts, textParts, readParts, readWith}
+use Rattle.format.specs.Calls.{Stores, withBody}
+use Rattle.format.specs.Reading.{Parts, textParts, readWith}
 use Rattle.format.specs.LookingUp.{inText}
-use Rattle.format.specs.Layout.{Lent, recordOf, emptyMessage}
+use Rattle.format.specs.Layout.{Lent, Holds, recordOf, emptyMessage}
 use Rattle.format.specs.Lending.{headLent, bothLent, lengthOf, lengths, numbersOf, zeroed, ReadInto, ReadLeaves, ParsedWith}
 use Rattle.format.specs.declared.Numbers.{Numbers}
 use Rattle.format.specs.declared.CpimMessage.{CpimMessage}
 use Rattle.format.specs.declared.Answer.{Answer}
-use Rattle.format.proofs.Steps.{accepted-same, refused-accepted, then-accepted, bind-accepted, bind-passed}
-use Rattle.format.proofs.Rulesets.{checks}
-use Rattle.format.proofs.Answers.{space-short, space-enough}
+use Rattle.format.proofs.Lists.{bcase}
+use Rattle.format.proofs.Steps.{accepted-same, refused-accepted, bind-accepted}
+use Rattle.format.proofs.Answers.{carried}
 use Rattle.sections.proofs.Joining.{body-crlf}
+use Rattle.sections.proofs.BodyParts.{filled-body}
 use Rattle.read_split.specs.TextJudged.{bodyBehind}
 use Rattle.read.specs.declared.HeadAnswer.{HeadAnswer}
+use Rattle.read.specs.SectionLines.{LinesRead}
 use Rattle.read.specs.Heads.{anyBody, readHeadWith, headNumbers, standsIn, startOf, HeadParsedWith}
-use Rattle.read.specs.Outcome.{ReadBy, BodyStands}
+use Rattle.read.specs.TextLines.{readSections, readLinesWith, joinedOver, copiedOver, bodied, BodyStands}
 use Rattle.read.proofs.LinesLoop.{zero-accepted, other-refused}
-use Rattle.read.proofs.Outcomes.{by-refused, by-passed, by-stopped, by-went, by-accepted}
-use Rattle.read.proofs.HeadFirst.{fits, head-first}
+use Rattle.read.proofs.ReadStores.{body-into}
+use Rattle.read.proofs.BodyLast.{lines-refused, read-long, read-short, read-whole}
 
-module _ (reader : Bytes → Out Header) (t : Bytes) (head : ℕ) where
-  -- a text that is refused is not read
-  pub text-refused : (r : Refusal) → textParts t ≡ refused r → readHeadWith reader t head ≡ refused r
-  unfolding readHeadWith readWith _>>=_
-  text-refused r e = rw e refl
+-- zeros over a store that kept its length
+pub zeros-kept : (a b after : Bytes) → length a ≡ length b → after ≡ zeroed a → after ≡ zeroed b
+zeros-kept a b after e f = f ∙ ap (λ (n : ℕ). replicate n 0) e
 
-  -- what is read has the body of the text's parts, which is no longer than a body may be
-  read-bodied : (p : Parts) (m : Message) → readParts reader p (anyBody head) ≡ accepted m → (m .body ≡ p .body) × (length (p .body) ≤ maxBody)
-  unfolding readParts setBody bodyLength
-  read-bodied p m h =
-      let headers = bind-accepted _ _ m (then-accepted _ _ m (then-accepted _ _ m h .0) .0) in
-      let contents = bind-accepted _ _ m (headers .2) in
-      let short = then-accepted _ _ m (contents .2) in
-      (sym (ap (λ (x : Message). x .body) (accepted-same (withBody (contents .0) (p .body)) m (then-accepted _ _ m (short .0) .0))), simp checks at (short .1))
+-- a store with room for the body holds it once its sections are joined over it, or it is copied there
+pub body-over : (crlf : Bool) (s d : Bytes) → length (bodyBehind crlf s) ≤ length d → copiedOver crlf s (joinedOver crlf s d) ≡ over (bodyBehind crlf s) d
+body-over true s d h = rw (body-crlf s) refl
+body-over false s d h = filled-body (pieces (split LFLF s)) d h
 
-  pub body-read : (p : Parts) → textParts t ≡ accepted p → (m : Message) → readHeadWith reader t head ≡ accepted m → m .body ≡ p .body
-  unfolding readHeadWith readWith
-  body-read p e m h = read-bodied p m (sym (bind-passed (textParts t) (λ q. readParts reader q (anyBody head)) p e) ∙ h) .0
-
-  pub body-short : (m : Message) → readHeadWith reader t head ≡ accepted m → length (m .body) ≤ maxBody
-  unfolding readHeadWith readWith
-  body-short m h =
-      let parts = bind-accepted (textParts t) _ m h in
-      let body = read-bodied (parts .0) m (parts .2) in
-      omega (arith, ap length (body .0), body .1)
-
--- an answer with where the body stands says of the reading what the answer said
-pub placed-same : {l : Lent} {head : Bytes} {o : Out Message} (r : HeadAnswer) (a : Answer) (inside : Bool) (start : ℕ)
-    → r ≡ record { number = a .number; carried = a .carried; message = a .message; «in_text» = inside; start = start }
-    → ReadBy l (headLent (a .message) head) (numbersOf a) o → ReadBy l (headLent (r .message) head) (headNumbers r) o
-placed-same {l} {head} {o} r a inside start e d =
-    subst (λ (x : HeadAnswer). ReadBy l (headLent (x .message) head) (headNumbers x) o) (sym e) d
-
--- zeros in both stores, and an empty record
-pub zeros-left : (m : CpimMessage) (head body after kept : Bytes) → m ≡ emptyMessage → after ≡ zeroed head → kept ≡ zeroed body
-    → bothLent m after kept ≡ record { message = emptyMessage; head = zeroed head; body = some (zeroed body) }
-zeros-left m head body after kept e f g = λ i. record { message = e i; head = f i; body = some (g i) }
-
--- What reading has done in the head store: j is what is left, n what is answered.
-module _ (reader : Bytes → Out Header) (t head : Bytes) (j : Lent) (n : Numbers) (d : ReadBy (headLent emptyMessage head) j n (readHeadWith reader t (length head))) where
-  -- `parse_head`, refused
-  pub head-refused : (n .number ≡ 0 → ⊥) → (r : HeadAnswer) (after : Bytes)
-      → r ≡ record { number = n .number; carried = n .carried; message = emptyMessage; «in_text» = false; start = 0 } → after ≡ zeroed head
-      → HeadParsedWith reader t (headLent emptyMessage head) (headLent (r .message) after) r
+-- A refusal, of `parse_head` and of `parse_cpim`, by its numbers.
+module _ (reader : Bytes → Out Header) (t head : Bytes) (n : Numbers) (z : n .number ≡ 0 → ⊥) where
+  pub head-refused : n ≡ numbers (readHeadWith reader t (length head)) → (a : HeadAnswer) (after : Bytes)
+      → a ≡ record { number = n .number; carried = n .carried; message = emptyMessage; «in_text» = false; start = 0 } → after ≡ zeroed head
+      → HeadParsedWith reader t (headLent emptyMessage head) (headLent (a .message) after) a
   unfolding standsIn startOf
-  head-refused z r after e f =
-      let o = other-refused (readHeadWith reader t (length head)) n (d .answered) z in
+  head-refused h a after e f =
+      let o = other-refused (readHeadWith reader t (length head)) n h z in
       record {
-        answered = ap headNumbers e ∙ d .answered;
-        left = subst (ReadLeaves (headLent emptyMessage head) (headLent (r .message) after)) (sym (o .1)) (λ i. headLent (e i .message) (f i));
+        answered = ap headNumbers e ∙ h;
+        left = subst (ReadLeaves (headLent emptyMessage head) (headLent (a .message) after)) (sym (o .1)) (λ i. headLent (e i .message) (f i));
         inside = ap (λ (x : HeadAnswer). x .«in_text») e ∙ sym (ap (standsIn t) (o .1));
         begins = ap (λ (x : HeadAnswer). x .start) e ∙ sym (ap (startOf t) (o .1));
-        there = λ m h. refused-accepted (o .0) m (sym (o .1) ∙ h);
+        there = λ m g. refused-accepted (o .0) m (sym (o .1) ∙ g);
       }
 
-  module _ (z : n .number ≡ 0) where
-    -- what is read
+  pub whole-refused : (body : Bytes) → n ≡ numbers (readWith reader t (lengths (bothLent emptyMessage head body))) → (a : Answer) (after kept : Bytes)
+      → a ≡ record { number = n .number; carried = n .carried; message = emptyMessage } → after ≡ zeroed head → kept ≡ zeroed body
+      → ParsedWith reader t (bothLent emptyMessage head body) (bothLent (a .message) after kept) (numbersOf a)
+  whole-refused body h a after kept e f g =
+      let o = other-refused (readWith reader t (lengths (bothLent emptyMessage head body))) n h z in
+      record {
+        answered = ap numbersOf e ∙ h;
+        left = subst (ReadLeaves (bothLent emptyMessage head body) (bothLent (a .message) after kept)) (sym (o .1)) (λ i. bothLent (e i .message) (f i) (g i));
+      }
+
+-- What the lines of a text give: m and after are what they leave, n is what is answered.
+module _ (reader : Bytes → Out Header) (t head : Bytes) (m : CpimMessage) (after : Bytes) (n : Numbers)
+    (d : LinesRead (headLent m after) n (readLinesWith reader t (length head))) where
+  -- they are refused, and with them the reading, whatever the body store
+  pub told-lines : (n .number ≡ 0 → ⊥) → (body : ℕ) → n ≡ numbers (readWith reader t (record { head = length head; body = body }))
+  unfolding numbers
+  told-lines z body =
+      let o = other-refused (readLinesWith reader t (length head)) n (d .answered) z in
+      d .answered ∙ ap numbers (o .1) ∙ sym (ap numbers (lines-refused reader (record { head = length head; body = body }) t (o .0) (o .1)))
+
+  -- they are accepted, and the body stands behind a place
+  module _ (z : n .number ≡ 0) (inside : Bool) (start : ℕ) (stands : (p : Parts) → textParts t ≡ accepted p → BodyStands t inside start (p .body)) where
     message-is : Message
-    message-is = zero-accepted (readHeadWith reader t (length head)) n (d .answered) z .0
+    message-is = zero-accepted (readLinesWith reader t (length head)) n (d .answered) z .0
 
-    is-read : readHeadWith reader t (length head) ≡ accepted message-is
+    is-read : readLinesWith reader t (length head) ≡ accepted message-is
     unfolding message-is
-    is-read = zero-accepted (readHeadWith reader t (length head)) n (d .answered) z .1
+    is-read = zero-accepted (readLinesWith reader t (length head)) n (d .answered) z .1
 
-    into : ReadInto (headLent emptyMessage head) j message-is
-    into = d .left message-is is-read
+    parts-are : (p : Parts) × (textParts t ≡ accepted p)
+    unfolding readLinesWith
+    parts-are = let p = bind-accepted (textParts t) _ message-is is-read in (p .0, p .1)
 
-    body-size : j .message .bodylen ≡ length (message-is .body)
-    unfolding recordOf
-    body-size = ap (λ (x : CpimMessage). x .bodylen) (into .recorded)
+    body-stands : BodyStands t inside start (parts-are .0 .body)
+    body-stands = stands (parts-are .0) (parts-are .1)
 
-    -- `parse_head`, accepted: by whether the body stands in the text
-    module _ (inside : Bool) (start : ℕ) (stands : (m : Message) → readHeadWith reader t (length head) ≡ accepted m → BodyStands t inside start (m .body)) where
-      pub head-inside : (r : HeadAnswer) (after : Bytes) → j ≡ headLent (r .message) after → n ≡ headNumbers r → r .«in_text» ≡ inside → r .start ≡ start
-          → inside ≡ true → HeadParsedWith reader t (headLent emptyMessage head) (headLent (r .message) after) r
-      unfolding standsIn startOf
-      head-inside r after k a e f h =
-          let s = stands message-is is-read in
-          let behind : message-is .body ≡ drop start t = s .behind ∙ ap (λ (b : Bool). bodyBehind b (drop start t)) h ∙ body-crlf (drop start t) in
-          let in-text : inText t ≡ true = sym (s .separated) ∙ h in
-          record {
-            answered = sym a ∙ d .answered;
-            left = subst (ReadLeaves (headLent emptyMessage head) (headLent (r .message) after)) (sym is-read) (subst (λ (x : Lent). ReadInto (headLent emptyMessage head) x message-is) k into);
-            inside = e ∙ s .separated ∙ sym (ap (standsIn t) is-read);
-            begins = f
-                ∙ omega (arith, ap length behind, length-drop start t, s .within)
-                ∙ sym (ap (λ (b : Bool). if b then length t - length (message-is .body) else 0) in-text)
-                ∙ sym (ap (startOf t) is-read);
-            there = λ m g i. ap (λ (x : ℕ). drop x t) f ∙ sym behind ∙ ap (λ (x : Message). x .body) (accepted-same message-is m (sym is-read ∙ g));
-          }
+    pub body-within : (start ≤ length t) × (length t ≤ maxText)
+    body-within = (body-stands .within, body-stands .short)
 
-      -- a store that is as long as the record says has room for it
-      pub body-room : (n : ℕ) → j .message .bodylen ≤ n → (start ≤ length t) × (length (bodyBehind inside (drop start t)) ≤ n)
-      body-room n h = let s = stands message-is is-read in (s .within, omega (arith, body-size, ap length (s .behind)))
+    -- the body has b bytes
+    module _ (b : ℕ) (size : b ≡ length (bodyBehind inside (drop start t))) where
+      body-size : b ≡ length (parts-are .0 .body)
+      body-size = size ∙ sym (ap length (body-stands .behind))
 
-      pub head-outside : (r : HeadAnswer) (after : Bytes) → j ≡ headLent (r .message) after → headNumbers r ≡ record { number = 0; carried = 0 }
-          → r .«in_text» ≡ false → r .start ≡ 0 → inside ≡ false → HeadParsedWith reader t (headLent emptyMessage head) (headLent (r .message) after) r
-      unfolding standsIn startOf numbers
-      head-outside r after k a e f h =
-          let s = stands message-is is-read in
-          let in-text : inText t ≡ false = sym (s .separated) ∙ h in
-          record {
-            answered = a ∙ sym (ap numbers is-read);
-            left = subst (ReadLeaves (headLent emptyMessage head) (headLent (r .message) after)) (sym is-read) (subst (λ (x : Lent). ReadInto (headLent emptyMessage head) x message-is) k into);
-            inside = e ∙ sym in-text ∙ sym (ap (standsIn t) is-read);
-            begins = f ∙ sym (ap (λ (b : Bool). if b then length t - length (message-is .body) else 0) in-text) ∙ sym (ap (startOf t) is-read);
-            there = λ m g i. absurd (true≢false (sym i ∙ in-text));
-          }
+      -- 23, whatever the body store
+      pub told-long : maxBody < b → b < 2 ^ 64 → (body : ℕ) → record { number = 23; carried = b } ≡ numbers (readWith reader t (record { head = length head; body = body }))
+      unfolding numbers table
+      told-long long f body =
+          sym (carried 23 b f)
+          ∙ sym (ap numbers (read-long reader (record { head = length head; body = body }) t (parts-are .0) (parts-are .1) message-is is-read b body-size long))
 
-  -- `parse_cpim`: the body store, too, is lent
-  module _ (body : Bytes) where
-    by-head : (k : Lent) (i : Numbers) → ReadBy (bothLent emptyMessage head body) k i (_>>=_ (readHeadWith reader t (length head)) (fits (length body)))
-        → ReadBy (bothLent emptyMessage head body) k i (readWith reader t (lengths (bothLent emptyMessage head body)))
-    unfolding lengths lengthOf
-    by-head k i = subst (ReadBy (bothLent emptyMessage head body) k i) (sym (head-first reader (lengths (bothLent emptyMessage head body)) t))
+      module _ (short : b ≤ maxBody) where
+        -- 26
+        pub told-short : b < 2 ^ 64 → (body : ℕ) → body < b → record { number = 26; carried = b } ≡ numbers (readWith reader t (record { head = length head; body = body }))
+        unfolding numbers table
+        told-short f body l =
+            sym (carried 26 b f)
+            ∙ sym (ap numbers (read-short reader (record { head = length head; body = body }) t (parts-are .0) (parts-are .1) message-is is-read b body-size short l))
 
-    -- a refusal leaves zeros
-    zeros-parsed : (i : Numbers) (k : Lent) → ReadBy (bothLent emptyMessage head body) k i (readWith reader t (lengths (bothLent emptyMessage head body)))
-        → (i .number ≡ 0 → ⊥) → k ≡ record { message = emptyMessage; head = zeroed head; body = some (zeroed body) }
-        → ParsedWith reader t (bothLent emptyMessage head body) k i
-    zeros-parsed i k b z f =
-        let o = other-refused (readWith reader t (lengths (bothLent emptyMessage head body))) i (b .answered) z in
-        record { answered = b .answered; left = subst (ReadLeaves (bothLent emptyMessage head body) k) (sym (o .1)) f }
+        -- all is accepted: the head store is as long as it was
+        module _ (kept : length after ≡ length head) where
+          into : ReadInto (headLent emptyMessage head) (headLent (bodied m b) after) (withBody message-is (parts-are .0 .body))
+          into = body-into m head after (parts-are .0 .body) message-is b (d .held message-is is-read) kept body-size
 
-    pub whole-refused : (n .number ≡ 0 → ⊥) → (k : Lent) (i : Numbers) → i ≡ n
-        → k ≡ record { message = emptyMessage; head = zeroed head; body = some (zeroed body) } → ParsedWith reader t (bothLent emptyMessage head body) k i
-    whole-refused z k i e =
-        zeros-parsed i k (by-head k i (by-stopped _ _ _ (readHeadWith reader t (length head)) _ (e ∙ d .answered) (λ y. z (ap (λ (x : Numbers). x .number) (sym e) ∙ y))))
-        (λ y. z (ap (λ (x : Numbers). x .number) (sym e) ∙ y))
+          head-whole : readHeadWith reader t (length head) ≡ accepted (withBody message-is (parts-are .0 .body))
+          unfolding readHeadWith anyBody
+          head-whole = read-whole reader (anyBody (length head)) t (parts-are .0) (parts-are .1) message-is is-read b body-size short short
 
-    module _ (z : n .number ≡ 0) where
-      -- 26
-      pub whole-short : length body < j .message .bodylen → (k : Lent) (i : Numbers)
-          → i ≡ record { number = 26; carried = j .message .bodylen } → k ≡ record { message = emptyMessage; head = zeroed head; body = some (zeroed body) }
-          → ParsedWith reader t (bothLent emptyMessage head body) k i
-      unfolding fits
-      whole-short h k i e =
-          zeros-parsed i k
-          (by-head k i
-          (by-went _ _ _ (readHeadWith reader t (length head)) (fits (length body)) (message-is z) (is-read z)
-          (by-refused _ _ _ (enough (length body) (length (message-is z .body))) _
-          (e ∙ ap (λ (x : ℕ). record { number = 26; carried = x }) (body-size z) ∙ space-short (length body) (length (message-is z .body)) (omega (arith, body-size z)) (omega (arith, body-short reader t (length head) (message-is z) (is-read z))))
-          other))) other
-        where
-          other : i .number ≡ 0 → ⊥
-          other y = let q : _≡_ {A = ℕ} 26 0 = ap (λ (x : Numbers). x .number) (sym e) ∙ y in omega arith
+          head-left : ReadLeaves (headLent emptyMessage head) (headLent (bodied m b) after) (readHeadWith reader t (length head))
+          head-left = subst (ReadLeaves (headLent emptyMessage head) (headLent (bodied m b) after)) (sym head-whole) into
 
-      pub whole-stored : j .message .bodylen ≤ length body → (k : Lent) (i : Numbers) (after : Bytes) → i ≡ record { number = 0; carried = 0 }
-          → k ≡ bothLent (j .message) (j .head) after → ((m : Message) → readHeadWith reader t (length head) ≡ accepted m → after ≡ over (m .body) body)
-          → ParsedWith reader t (bothLent emptyMessage head body) k i
-      unfolding fits
-      whole-stored h k i after e f stored =
-          let b =
-          by-head k i
-          (by-went _ _ _ (readHeadWith reader t (length head)) (fits (length body)) (message-is z) (is-read z)
-          (by-passed _ _ _ (enough (length body) (length (message-is z .body))) _ (space-enough (length body) (length (message-is z .body)) (omega (arith, body-size z)))
-          (by-accepted _ _ _ (message-is z) e
-          (subst (λ (x : Lent). ReadInto (bothLent emptyMessage head body) x (message-is z)) (sym f)
-          (record { recorded = into z .recorded; laid = into z .laid; kept = into z .kept; stored = ap some (stored (message-is z) (is-read z)) }))))) in
-          let o = zero-accepted (readWith reader t (lengths (bothLent emptyMessage head body))) i (b .answered) (ap (λ (x : Numbers). x .number) e) in
-          record { answered = b .answered; left = subst (ReadLeaves (bothLent emptyMessage head body) k) (sym (o .1)) (b .left (o .0) (o .1)) }
+          -- `parse_head`, by whether the body stands in the text
+          pub head-inside : inside ≡ true
+              → HeadParsedWith reader t (headLent emptyMessage head) (headLent (bodied m b) after) (record { number = 0; carried = 0; message = bodied m b; «in_text» = true; start = start })
+          unfolding standsIn startOf numbers
+          head-inside h =
+              let in-text : inText t ≡ true = sym (body-stands .separated) ∙ h in
+              let behind : parts-are .0 .body ≡ drop start t = body-stands .behind ∙ ap (λ (x : Bool). bodyBehind x (drop start t)) h ∙ body-crlf (drop start t) in
+              record {
+                answered = sym (ap numbers head-whole);
+                left = head-left;
+                inside = sym in-text ∙ sym (ap (standsIn t) head-whole);
+                begins = omega (arith, ap length behind, length-drop start t, body-stands .within)
+                    ∙ sym (ap (λ (x : Bool). if x then length t - length (parts-are .0 .body) else 0) in-text)
+                    ∙ sym (ap (startOf t) head-whole);
+                there = λ k g i. sym behind ∙ ap (λ (x : Message). x .body) (accepted-same (withBody message-is (parts-are .0 .body)) k (sym head-whole ∙ g));
+              }
+
+          pub head-outside : inside ≡ false
+              → HeadParsedWith reader t (headLent emptyMessage head) (headLent (bodied m b) after) (record { number = 0; carried = 0; message = bodied m b; «in_text» = false; start = 0 })
+          unfolding standsIn startOf numbers
+          head-outside h =
+              let in-text : inText t ≡ false = sym (body-stands .separated) ∙ h in
+              record {
+                answered = sym (ap numbers head-whole);
+                left = head-left;
+                inside = sym in-text ∙ sym (ap (standsIn t) head-whole);
+                begins = sym (ap (λ (x : Bool). if x then length t - length (parts-are .0 .body) else 0) in-text) ∙ sym (ap (startOf t) head-whole);
+                there = λ k g i. absurd (true≢false (sym i ∙ in-text));
+              }
+
+          -- `parse_cpim`
+          pub whole-stored : (body stored : Bytes) → b ≤ length body → stored ≡ copiedOver inside (drop start t) (joinedOver inside (drop start t) body)
+              → ParsedWith reader t (bothLent emptyMessage head body) (bothLent (bodied m b) after stored) (record { number = 0; carried = 0 })
+          unfolding lengths lengthOf numbers
+          whole-stored body stored l e =
+              let o = read-whole reader (record { head = length head; body = length body }) t (parts-are .0) (parts-are .1) message-is is-read b body-size short l in
+              record {
+                answered = sym (ap numbers o);
+                left = subst (ReadLeaves (bothLent emptyMessage head body) (bothLent (bodied m b) after stored)) (sym o)
+                    (record {
+                      recorded = into .recorded;
+                      laid = into .laid;
+                      kept = into .kept;
+                      stored = ap some (e ∙ body-over inside (drop start t) body (omega arith) ∙ ap (λ (x : Bytes). over x body) (sym (body-stands .behind)));
+                    });
+              }

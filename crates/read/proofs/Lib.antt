@@ -2,6 +2,6 @@ pub mod LinesLoop
 pub mod Outcomes
 pub mod HeaderSectionLine
 pub mod ReadStores
-pub mod HeadFirst
+pub mod BodyLast
 pub mod Endings
 pub mod NeverShort

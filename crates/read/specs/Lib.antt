@@ -1,3 +1,3 @@
 pub mod SectionLines
 pub mod Heads
-pub mod Outcome
+pub mod TextLines

@@ -1,8 +1,8 @@
 // Document 01, "Reading": `parse_cpim`, and `parse_head`, which leaves the body where it stands. Document 02, T-01:
 // `parse_cpim_rfc` and `parse_head_rfc`, the same with the second reader of a header line. A text is judged
-// (`read_split`), its header lines and content lines are read into the head store (`section_lines`), its body is
-// measured, and by `parse_cpim` and `parse_cpim_rfc` laid into the body store. A refused reading leaves zeros in what it
-// is lent.
+// (`read_split`), its header lines and content lines are read into the head store (`section_lines`), and its body is
+// measured, or by `parse_cpim` and `parse_cpim_rfc` laid into the body store and then judged: a refused reading leaves
+// zeros in what it is lent.
 
 mod section_lines;
 
@@ -19,25 +19,23 @@ use read_content_line::put_type;
 use read_split::Judgement;
 use read_split::body_len;
 use read_split::judge;
-use sections::bodies::join_into;
+use sections::bodies::join_body;
 use store_check::MAX_BODY_SIZE;
 ghost use mathlib.Core.Path.{_≡_};
-ghost use mathlib.Core.Option.{some};
+ghost use mathlib.Core.Bool.{true};
 ghost use Prim.Native.Nat.{_≤_};
 ghost use lib.ListN.{length, drop};
-ghost use Rattle.format.specs.Bytes.{Bytes, over};
+ghost use Rattle.format.specs.Characters.{isUtf8};
 ghost use Rattle.format.specs.Limits.{maxText};
-ghost use Rattle.format.specs.Refusals.{accepted};
-ghost use Rattle.format.specs.Message.{Message};
-ghost use Rattle.format.specs.Calls.{setBody};
-ghost use Rattle.format.specs.Reading.{blank};
+ghost use Rattle.format.specs.Refusals.{accepted, numbers};
+ghost use Rattle.format.specs.Reading.{blank, Parts, textParts, readWith};
 ghost use Rattle.format.specs.ReadingRfc.{readHeaderRfc, lineReader};
 ghost use Rattle.format.specs.Layout.{Holds, emptyMessage};
-ghost use Rattle.format.specs.Lending.{headLent, bothLent, numbersOf, zeroed, ParsedWith, Parsed};
-ghost use Rattle.sections.specs.declared.Places.the-variants.{Four};
-ghost use Rattle.read_split.specs.TextJudged.{Stands, bodyBehind};
-ghost use Rattle.read.specs.Heads.{anyBody, readHeadWith, headNumbers, HeadParsedWith, HeadParsed};
-ghost use Rattle.read.specs.Outcome.{ReadBy, BodyStands};
+ghost use Rattle.format.specs.Lending.{headLent, bothLent, lengths, numbersOf, ParsedWith, Parsed};
+ghost use Rattle.read_split.specs.TextJudged.{bodyBehind};
+ghost use Rattle.read.specs.SectionLines.{LinesRead};
+ghost use Rattle.read.specs.Heads.{readHeadWith, headNumbers, HeadParsedWith, HeadParsed};
+ghost use Rattle.read.specs.TextLines.{readSections, readLinesWith, joinedOver, copiedOver, BodyStands};
 
 // What a reading that leaves the body where it stands answers: the two numbers, the record, whether the body stands in the text, and
 // where it begins there.
@@ -66,46 +64,18 @@ fn start(head: &mut [u8]) -> CpimMessage
     }
 }
 
-// 23; else the record has the body's length.
-fn measure_body(text: &[u8], crlf: bool, rest: usize, m: CpimMessage) -> Answer
-    requires { ⌜ (rest ≤ length (now text)) × (length (now text) ≤ maxText) ⌝ }
-    ensures { λ r. ⌜ ((head : Bytes) (k : Message) → Holds (headLent m head) k → ReadBy (headLent m head) (headLent (r .message) head) (numbersOf r) (setBody (bodyBehind crlf (drop rest (now (text .entry)))) (anyBody (length head)) k)) ⌝ }
-{
-    let n = body_len(text, crlf, rest);
-    if MAX_BODY_SIZE < n {
-        return no_message(23, n as u64);
-    }
-    Answer {
-        number: 0,
-        carried: 0,
-        message: CpimMessage {
-            typelen: m.typelen,
-            headers: m.headers,
-            headerlen: m.headerlen,
-            contents: m.contents,
-            contentlen: m.contentlen,
-            bodylen: n,
-        },
-    }
-}
-
-// 3, 25 carrying 256, headers, content headers, 23.
+// 3, 25 carrying 256, headers, content headers.
 fn read_sections(
     manner: Manner,
-    text: &[u8],
-    crlf: bool,
-    end1: usize,
-    start2: usize,
-    end2: usize,
-    start3: usize,
-    end3: usize,
-    rest: usize,
+    mime: &[u8],
+    headers: &[u8],
+    contents: &[u8],
     head: &mut [u8],
 ) -> Answer
-    requires { ⌜ Stands (now text) crlf (Four end1 start2 end2 start3 end3 rest) ⌝ }
-    ensures { λ r. ⌜ ReadBy (headLent emptyMessage (now (head .entry))) (headLent (r .message) (now (head .exit))) (numbersOf r) (readHeadWith (lineReader manner) (now (text .entry)) (length (now (head .entry)))) ⌝ }
+    requires { ⌜ (isUtf8 (now headers) ≡ true) × (isUtf8 (now contents) ≡ true) ⌝ }
+    ensures { λ r. ⌜ LinesRead (headLent (r .message) (now (head .exit))) (numbersOf r) (readSections (lineReader manner) (now (mime .entry)) (now (headers .entry)) (now (contents .entry)) (length (now (head .entry)))) ⌝ }
 {
-    if !says(&text[..end1], b"message/cpim") {
+    if !says(mime, b"message/cpim") {
         return no_message(3, 0);
     }
     if head.len() < 256 {
@@ -113,15 +83,11 @@ fn read_sections(
     }
     let m = start(head);
     let mut params = [0u8; 3376];
-    let h = read_headers(manner, &text[start2..end2], m, head, &mut params);
+    let h = read_headers(manner, headers, m, head, &mut params);
     if h.number != 0 {
         return h;
     }
-    let k = read_contents(&text[start3..end3], h.message, head);
-    if k.number != 0 {
-        return k;
-    }
-    measure_body(text, crlf, rest, k.message)
+    read_contents(contents, h.message, head)
 }
 
 // An answer with where the body stands.
@@ -138,10 +104,10 @@ fn placed(a: Answer, in_text: bool, start: usize) -> HeadAnswer
     }
 }
 
-// 1, 24, 2 before all others. Accepted, the body stands behind the place `start`, as it is or in sections to be joined.
+// 1, 24, 2 before all others. The body stands behind the place `start`, as it is or in sections to be joined, and is still to be judged.
 fn read_text(manner: Manner, text: &[u8], head: &mut [u8]) -> HeadAnswer
-    ensures read { λ r. ⌜ ReadBy (headLent emptyMessage (now (head .entry))) (headLent (r .message) (now (head .exit))) (headNumbers r) (readHeadWith (lineReader manner) (now (text .entry)) (length (now (head .entry)))) ⌝ }
-    ensures body { λ r. ⌜ ((m : Message) → readHeadWith (lineReader manner) (now (text .entry)) (length (now (head .entry))) ≡ accepted m → BodyStands (now (text .entry)) (r .«in_text») (r .start) (m .body)) ⌝ }
+    ensures read { λ r. ⌜ LinesRead (headLent (r .message) (now (head .exit))) (headNumbers r) (readLinesWith (lineReader manner) (now (text .entry)) (length (now (head .entry)))) ⌝ }
+    ensures body { λ r. ⌜ ((p : Parts) → textParts (now (text .entry)) ≡ accepted p → BodyStands (now (text .entry)) (r .«in_text») (r .start) (p .body)) ⌝ }
 {
     let judgement = judge(text);
     match judgement {
@@ -157,14 +123,9 @@ fn read_text(manner: Manner, text: &[u8], head: &mut [u8]) -> HeadAnswer
         } => {
             let r = read_sections(
                 manner,
-                text,
-                crlf,
-                end1,
-                start2,
-                end2,
-                start3,
-                end3,
-                rest,
+                &text[..end1],
+                &text[start2..end2],
+                &text[start3..end3],
                 head,
             );
             placed(r, crlf, rest)
@@ -172,31 +133,53 @@ fn read_text(manner: Manner, text: &[u8], head: &mut [u8]) -> HeadAnswer
     }
 }
 
-// The body over the store's first bytes. Each byte is copied once.
-fn store_body(text: &[u8], crlf: bool, rest: usize, store: &mut [u8])
-    requires { ⌜ (rest ≤ length (now text)) × (length (bodyBehind crlf (drop rest (now text))) ≤ length (now store)) ⌝ }
-    ensures { λ _. ⌜ now (store .exit) ≡ over (bodyBehind crlf (drop rest (now (text .entry)))) (now (store .entry)) ⌝ }
+// The body's length. Under LFLF the sections are joined over the store as they are counted, so that they are looked for once.
+fn measure_body(text: &[u8], crlf: bool, rest: usize, store: &mut [u8]) -> usize
+    requires { ⌜ (rest ≤ length (now text)) × (length (now text) ≤ maxText) ⌝ }
+    ensures length { λ r. ⌜ r ≡ length (bodyBehind crlf (drop rest (now (text .entry)))) ⌝ }
+    ensures bytes { λ _. ⌜ now (store .exit) ≡ joinedOver crlf (drop rest (now (text .entry))) (now (store .entry)) ⌝ }
 {
     if crlf {
-        copy_at(store, 0, &text[rest..]);
-        return;
+        return text.len() - rest;
     }
-    join_into(store, 0, &text[rest..]);
+    join_body(store, &text[rest..])
 }
 
-// A text read into a lent head store by either reader of a header line.
-fn head_by(manner: Manner, text: &[u8], head: &mut [u8]) -> HeadAnswer
-    ensures { λ r. ⌜ HeadParsedWith (lineReader manner) (now (text .entry)) (headLent emptyMessage (now (head .entry))) (headLent (r .message) (now (head .exit))) r ⌝ }
+// A body that stands in the text, over the store's first bytes; one that is joined is there already.
+fn copy_body(text: &[u8], crlf: bool, rest: usize, store: &mut [u8])
+    requires { ⌜ (rest ≤ length (now text)) × (length (bodyBehind crlf (drop rest (now text))) ≤ length (now store)) ⌝ }
+    ensures { λ _. ⌜ now (store .exit) ≡ copiedOver crlf (drop rest (now (text .entry))) (now (store .entry)) ⌝ }
+{
+    if !crlf {
+        return;
+    }
+    copy_at(store, 0, &text[rest..]);
+}
+
+// A text read into a lent head store, which a refusal leaves anyhow.
+fn read_head(manner: Manner, text: &[u8], head: &mut [u8]) -> HeadAnswer
+    ensures answered { λ r. ⌜ headNumbers r ≡ numbers (readHeadWith (lineReader manner) (now (text .entry)) (length (now (head .entry)))) ⌝ }
+    ensures read { λ r. ⌜ (r .number ≡ 0 → HeadParsedWith (lineReader manner) (now (text .entry)) (headLent emptyMessage (now (head .entry))) (headLent (r .message) (now (head .exit))) r) ⌝ }
 {
     let r = read_text(manner, text, head);
     if r.number != 0 {
-        zero_fill(head);
-        return placed(no_message(r.number, r.carried), false, 0);
-    }
-    if r.in_text {
         return r;
     }
-    let m = r.message;
+    let n = body_len(text, r.in_text, r.start);
+    if MAX_BODY_SIZE < n {
+        return placed(no_message(23, n as u64), false, 0);
+    }
+    let mut m = r.message;
+    m.bodylen = n;
+    if r.in_text {
+        return HeadAnswer {
+            number: 0,
+            carried: 0,
+            message: m,
+            in_text: true,
+            start: r.start,
+        };
+    }
     HeadAnswer {
         number: 0,
         carried: 0,
@@ -204,6 +187,18 @@ fn head_by(manner: Manner, text: &[u8], head: &mut [u8]) -> HeadAnswer
         in_text: false,
         start: 0,
     }
+}
+
+// The same, and a refusal leaves the empty record, no body, and zeros in the head store.
+fn head_by(manner: Manner, text: &[u8], head: &mut [u8]) -> HeadAnswer
+    ensures { λ r. ⌜ HeadParsedWith (lineReader manner) (now (text .entry)) (headLent emptyMessage (now (head .entry))) (headLent (r .message) (now (head .exit))) r ⌝ }
+{
+    let a = read_head(manner, text, head);
+    if a.number != 0 {
+        zero_fill(head);
+        return placed(no_message(a.number, a.carried), false, 0);
+    }
+    a
 }
 
 // A text read into a lent head store, its body left in the text, or, under LFLF, only measured; 26 never comes. Refused, the record is
@@ -221,34 +216,43 @@ pub fn parse_head_rfc(text: &[u8], head: &mut [u8]) -> HeadAnswer
     head_by(Manner::Rfc, text, head)
 }
 
-// A refusal: the empty record, and zeros in both stores.
-fn refuse(number: u64, carried: u64, head: &mut [u8], body: &mut [u8]) -> Answer
-    ensures answered { λ r. ⌜ numbersOf r ≡ record { number = number; carried = carried } ⌝ }
-    ensures left { λ r. ⌜ bothLent (r .message) (now (head .exit)) (now (body .exit)) ≡ record { message = emptyMessage; head = zeroed (now (head .entry)); body = some (zeroed (now (body .entry))) } ⌝ }
-{
-    zero_fill(head);
-    zero_fill(body);
-    no_message(number, carried)
-}
-
-// A text read into lent stores by either reader of a header line.
-fn parse_by(manner: Manner, text: &[u8], head: &mut [u8], body: &mut [u8]) -> Answer
-    ensures { λ r. ⌜ ParsedWith (lineReader manner) (now (text .entry)) (bothLent emptyMessage (now (head .entry)) (now (body .entry))) (bothLent (r .message) (now (head .exit)) (now (body .exit))) (numbersOf r) ⌝ }
+// A text read into lent stores, which a refusal leaves anyhow: an LFLF body is joined before it is judged.
+fn read_both(manner: Manner, text: &[u8], head: &mut [u8], body: &mut [u8]) -> Answer
+    ensures answered { λ r. ⌜ numbersOf r ≡ numbers (readWith (lineReader manner) (now (text .entry)) (lengths (bothLent emptyMessage (now (head .entry)) (now (body .entry))))) ⌝ }
+    ensures read { λ r. ⌜ (r .number ≡ 0 → ParsedWith (lineReader manner) (now (text .entry)) (bothLent emptyMessage (now (head .entry)) (now (body .entry))) (bothLent (r .message) (now (head .exit)) (now (body .exit))) (numbersOf r)) ⌝ }
 {
     let r = read_text(manner, text, head);
     if r.number != 0 {
-        return refuse(r.number, r.carried, head, body);
+        return no_message(r.number, r.carried);
     }
-    let m = r.message;
-    if body.len() < m.bodylen {
-        return refuse(26, m.bodylen as u64, head, body);
+    let len = measure_body(text, r.in_text, r.start, body);
+    if MAX_BODY_SIZE < len {
+        return no_message(23, len as u64);
     }
-    store_body(text, r.in_text, r.start, body);
+    if body.len() < len {
+        return no_message(26, len as u64);
+    }
+    copy_body(text, r.in_text, r.start, body);
+    let mut m = r.message;
+    m.bodylen = len;
     Answer {
         number: 0,
         carried: 0,
         message: m,
     }
+}
+
+// The same, and a refusal leaves the empty record, and zeros in both stores.
+fn parse_by(manner: Manner, text: &[u8], head: &mut [u8], body: &mut [u8]) -> Answer
+    ensures { λ r. ⌜ ParsedWith (lineReader manner) (now (text .entry)) (bothLent emptyMessage (now (head .entry)) (now (body .entry))) (bothLent (r .message) (now (head .exit)) (now (body .exit))) (numbersOf r) ⌝ }
+{
+    let a = read_both(manner, text, head, body);
+    if a.number != 0 {
+        zero_fill(head);
+        zero_fill(body);
+        return no_message(a.number, a.carried);
+    }
+    a
 }
 
 // A text read into lent stores; refused, the record is empty and both stores are zeros.

@@ -2,7 +2,7 @@
 // calls.
 
 use sections::Places;
-use sections::bodies::join_into;
+use sections::bodies::join_body;
 use sections::bodies::joined_len;
 use sections::crlf_sections;
 use sections::first_three;
@@ -150,7 +150,7 @@ pub fn read_body(text: &[u8], buffer: &mut [u8]) -> LengthAnswer
                     length: 0,
                 };
             }
-            join_into(buffer, 0, &text[rest..]);
+            join_body(buffer, &text[rest..]);
             LengthAnswer {
                 number: 0,
                 carried: 0,

@@ -1,21 +1,20 @@
--- The sections joined, piece by piece: what a cut says of the whole, and what has been written so far. Assumes nothing.
-use Prim.Native.Nat.{_+_, _≤_}
-use mathlib.Core.Path.{_≡_, refl, sym, ap, _∙_}
+-- The sections joined, cut by cut: what a cut says of the whole. Assumes nothing.
+use Prim.Native.Nat.{ℕ, zero, suc, _+_, _*_, _≤_, _<_}
+use mathlib.Core.Path.{_≡_, refl, ap, _∙_}
 use mathlib.Core.Bool.{true, false}
-use mathlib.Core.List.{[], _∷_, _++_, append-assoc}
+use mathlib.Core.List.{[], _∷_, _++_}
 use mathlib.Core.Logic.{⊎-elim}
 use native.Mathlib.Omega.{arith}
-use lib.ListN.{length, take, drop, length-append}
-use lib.Seq.{length-take-le, take-length}
+use lib.ListN.{length, take, drop, length-append, length-drop}
+use lib.Seq.{length-take-le}
 use Rattle.format.specs.Bytes.{Bytes, cr, lf, LFLF, CRLFCRLF, pieces, split}
 use Rattle.format.specs.Reading.{bodyOf}
 use Rattle.format.proofs.Lists.{bcase}
 use Rattle.format.proofs.Splitting.Split.{join-one, join-cons, join-split}
 use Rattle.sections.specs.declared.Piece.{Piece}
-use Rattle.sections.specs.Body.{joined, opening}
+use Rattle.sections.specs.Body.{joined}
 use Rattle.sections.specs.Cuts.{cutOf}
-use Rattle.sections.proofs.FirstCut.{found}
-use Rattle.sections.proofs.Cutting.{More, cut-more, cut-last, more-occurs, last-clear, last-whole}
+use Rattle.sections.proofs.Cutting.{More, cut-more, cut-last}
 
 -- the body of a text whose separator is CRLFCRLF is part of the text
 pub body-crlf : (t : Bytes) → bodyOf (pieces (split CRLFCRLF t)) ≡ t
@@ -36,43 +35,23 @@ pub joined-last : (t : Bytes) → pieces (split LFLF t) ≡ t ∷ [] → joined 
 unfolding bodyOf
 joined-last t h = ap bodyOf h ∙ join-one CRLFCRLF t
 
--- the first section with what is written behind it
-pub opening-more : (t : Bytes) (r : Piece) → r ≡ cutOf LFLF t → r .last ≡ false → opening t ≡ take (r .end) t ++ CRLFCRLF
-unfolding opening cutOf
-opening-more t r e h =
-    let o = more-occurs LFLF t r e h in
-    rw (e, o) (ap (λ (s : Bytes). s ++ CRLFCRLF) (found LFLF t (omega arith) o .first))
-
-pub opening-last : (t : Bytes) (r : Piece) → r ≡ cutOf LFLF t → r .last ≡ true → opening t ≡ take (r .end) t
-unfolding opening
-opening-last t r e h =
-    rw (last-clear LFLF t r e h, last-whole LFLF t r e h) (sym (take-length t))
-
--- it holds the bytes before the cut
-pub opening-holds : (t : Bytes) (r : Piece) → r ≡ cutOf LFLF t → length (take (r .end) t) ≤ length (opening t)
-opening-holds t r e = ⊎-elim last more (bcase (r .last))
+-- Joined, a text is at most twice as long: two bytes become four. By the first cut, and then of what stands behind it.
+bound-cut : (t : Bytes) → ((s : Bytes) → length s < length t → length (joined s) ≤ 2 * length s) → length (joined t) ≤ 2 * length t
+bound-cut t shorter = ⊎-elim last more (bcase ((cutOf LFLF t) .last))
   where
-    last : r .last ≡ true → length (take (r .end) t) ≤ length (opening t)
-    last h = rw (opening-last t r e h) (omega arith)
+    last : (cutOf LFLF t) .last ≡ true → length (joined t) ≤ 2 * length t
+    last h = rw (joined-last t (cut-last LFLF t (cutOf LFLF t) refl h)) (omega arith)
 
-    more : r .last ≡ false → length (take (r .end) t) ≤ length (opening t)
-    more h = rw (opening-more t r e h, length-append (take (r .end) t) CRLFCRLF) (omega arith)
-
--- it begins the whole
-pub joined-next : (t rest : Bytes) (r : Piece) → r ≡ cutOf LFLF t → r .last ≡ false → More LFLF t rest r → joined t ≡ opening t ++ joined rest
-joined-next t rest r e h m = joined-more t rest r m ∙ rw (opening-more t r e h) (sym (append-assoc (take (r .end) t) CRLFCRLF (joined rest)))
-
-pub joined-end : (t : Bytes) (r : Piece) → r ≡ cutOf LFLF t → r .last ≡ true → joined t ≡ opening t
-joined-end t r e h =
-    joined-last t (cut-last LFLF t r e h) ∙ sym (opening-last t r e h ∙ rw (last-whole LFLF t r e h) (take-length t))
-
-pub opening-fits : (t : Bytes) → length (opening t) ≤ length (joined t)
-opening-fits t = ⊎-elim last more (bcase ((cutOf LFLF t) .last))
-  where
-    last : (cutOf LFLF t) .last ≡ true → length (opening t) ≤ length (joined t)
-    last h = rw (joined-end t (cutOf LFLF t) refl h) (omega arith)
-
-    more : (cutOf LFLF t) .last ≡ false → length (opening t) ≤ length (joined t)
+    more : (cutOf LFLF t) .last ≡ false → length (joined t) ≤ 2 * length t
     more h =
+        let m = cut-more LFLF t (cutOf LFLF t) (omega arith) refl h in
         let rest = drop ((cutOf LFLF t) .next) t in
-        rw (joined-next t rest (cutOf LFLF t) refl h (cut-more LFLF t (cutOf LFLF t) (omega arith) refl h), length-append (opening t) (joined rest)) (omega arith)
+        let l = length-drop ((cutOf LFLF t) .next) t in
+        omega (arith, joined-length t rest (cutOf LFLF t) m, shorter rest (omega arith))
+
+bound-by : (n : ℕ) (t : Bytes) → length t ≤ n → length (joined t) ≤ 2 * length t
+bound-by zero t h = bound-cut t (λ s k. omega arith)
+bound-by (suc n) t h = bound-cut t (λ s k. bound-by n s (omega arith))
+
+pub joined-bound : (t : Bytes) → length (joined t) ≤ 2 * length t
+joined-bound t = bound-by (length t) t (omega arith)

@@ -4,5 +4,7 @@ pub mod Cutting
 pub mod FirstPlace
 pub mod FirstCut
 pub mod Joining
+pub mod BodyParts
+pub mod JoinTurn
 pub mod Sections
 pub mod Splits

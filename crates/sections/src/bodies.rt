@@ -1,16 +1,14 @@
 // Document 01, "Reading": the body of a text whose separator is LFLF, "sections from the fourth, joined by CRLFCRLF": its
-// length, for which the caller lends the room, and its bytes.
+// length, and its bytes, copied section by section into parts of a store that stand one behind another.
 
-use crate::Piece;
 use crate::cut;
 use octets::copy_at;
 ghost use mathlib.Core.Path.{_≡_};
 ghost use Prim.Native.Nat.{_+_, _≤_};
 ghost use lib.ListN.{length};
-ghost use Rattle.format.specs.Bytes.{LFLF, pasted};
+ghost use Rattle.format.specs.Bytes.{LFLF, if_then_else_, pieces, split};
 ghost use Rattle.format.specs.Limits.{maxText};
-ghost use Rattle.sections.specs.Body.{joined, opening};
-ghost use Rattle.sections.specs.Cuts.{cutOf};
+ghost use Rattle.sections.specs.Body.{joined, led, bodyParts, filled};
 
 // How many bytes the sections of the rest take, joined.
 pub fn joined_len(rest: &[u8]) -> usize
@@ -29,35 +27,54 @@ pub fn joined_len(rest: &[u8]) -> usize
     }
 }
 
-// The first section of what is left, over the bytes of out from the place at on, and CRLFCRLF behind it where another
-// follows.
-fn put_section(out: &mut [u8], at: usize, left: &[u8]) -> Piece
-    requires { ⌜ at + length (opening (now left)) ≤ length (now out) ⌝ }
-    ensures { λ r. ⌜ (r ≡ cutOf LFLF (now (left .entry))) × (now (out .exit) ≡ pasted at (opening (now (left .entry))) (now (out .entry))) ⌝ }
+// n bytes, and four more for CRLFCRLF ahead of them.
+fn led_len(n: usize, ahead: bool) -> usize
+    requires { ⌜ n ≤ maxText + maxText ⌝ }
+    ensures { λ r. ⌜ r ≡ (if ahead then 4 else 0) + n ⌝ }
 {
-    let piece = cut(left, b"\n\n");
-    let end = piece.end;
-    copy_at(out, at, &left[..end]);
-    if piece.last {
-        return piece;
+    if ahead {
+        return 4 + n;
     }
-    copy_at(out, at + end, b"\r\n\r\n");
-    piece
+    n
 }
 
-// The sections of the rest, joined, over the bytes of out from the place at on: each byte is copied once.
-pub fn join_into(out: &mut [u8], at: usize, rest: &[u8])
-    requires { ⌜ at + length (joined (now rest)) ≤ length (now out) ⌝ }
-    ensures { λ _. ⌜ now (out .exit) ≡ pasted at (joined (now (rest .entry))) (now (out .entry)) ⌝ }
+// A step of the joining: one section, with CRLFCRLF ahead of it where another stands before it, over all of the part that is lent for it.
+fn fill_section(part: &mut [u8], section: &[u8], ahead: bool)
+    requires { ⌜ length (now part) ≡ length (led ahead (now section)) ⌝ }
+    ensures { λ _. ⌜ now (part .exit) ≡ led ahead (now (section .entry)) ⌝ }
 {
-    let mut n: usize = 0;
+    if ahead {
+        copy_at(part, 0, b"\r\n\r\n");
+        copy_at(part, 4, section);
+        return;
+    }
+    copy_at(part, 0, section);
+}
+
+// The sections of the rest, joined, over the first bytes of out, and how many these are. The first part that does not fit ends
+// the copying: what is left is only measured.
+pub fn join_body(out: &mut [u8], rest: &[u8]) -> usize
+    requires { ⌜ length (now rest) ≤ maxText ⌝ }
+    ensures length { λ r. ⌜ r ≡ length (joined (now (rest .entry))) ⌝ }
+    ensures bytes { λ _. ⌜ now (out .exit) ≡ filled 0 (bodyParts (pieces (split LFLF (now (rest .entry))))) (now (out .entry)) ⌝ }
+{
+    let mut to: usize = 0;
     let mut from: usize = 0;
+    let mut ahead = false;
     loop {
-        let piece = put_section(out, at + n, &rest[from..]);
-        if piece.last {
-            return;
+        let piece = cut(&rest[from..], b"\n\n");
+        let n = led_len(piece.end, ahead);
+        if out.len() - to < n {
+            return to + led_len(joined_len(&rest[from..]), ahead);
         }
-        n += piece.end + 4;
+        let end = to + n;
+        let stop = from + piece.end;
+        fill_section(&mut out[to..end], &rest[from..stop], ahead);
+        if piece.last {
+            return end;
+        }
+        to = end;
         from += piece.next;
+        ahead = true;
     }
 }

@@ -20,7 +20,7 @@ mod raw {
         pub fn leaves_find(text: *const u8, n: usize, pattern: *const u8, k: usize) -> usize;
         pub fn leaves_find_plain(text: *const u8, n: usize, pattern: *const u8, k: usize) -> usize;
         pub fn leaves_joined_len(rest: *const u8, n: usize) -> usize;
-        pub fn leaves_join_into(out: *mut u8, m: usize, rest: *const u8, n: usize);
+        pub fn leaves_join_body(out: *mut u8, m: usize, rest: *const u8, n: usize) -> usize;
         pub fn leaves_copy_at(dst: *mut u8, m: usize, at: usize, src: *const u8, n: usize);
         pub fn leaves_shift(s: *mut u8, n: usize, from: usize, to: usize, k: usize);
         pub fn leaves_zero_fill(s: *mut u8, n: usize);
@@ -123,10 +123,10 @@ pub fn joined_len(rest: &[u8]) -> usize {
     unsafe { raw::leaves_joined_len(rest.as_ptr(), rest.len()) }
 }
 
-/// Writes these pieces, so joined, to the start of `out`.
-pub fn join_into(out: &mut [u8], rest: &[u8]) {
-    assert!(joined_len(rest) <= out.len());
-    unsafe { raw::leaves_join_into(out.as_mut_ptr(), out.len(), rest.as_ptr(), rest.len()) }
+/// Writes these pieces, so joined, to the start of `out`, up to the first that does not fit with the CRLFCRLF ahead of it, and tells their length.
+pub fn join_body(out: &mut [u8], rest: &[u8]) -> usize {
+    assert!(rest.len() <= 20_971_520);
+    unsafe { raw::leaves_join_body(out.as_mut_ptr(), out.len(), rest.as_ptr(), rest.len()) }
 }
 
 pub fn copy_at(dst: &mut [u8], at: usize, src: &[u8]) {

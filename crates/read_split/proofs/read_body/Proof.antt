@@ -3,16 +3,16 @@ use mathlib.Core.Path.{_≡_, sym, ap, subst, _∙_}
 use mathlib.Core.Bool.{Bool, false}
 use Prim.Native.Nat.{_-_, _≤_}
 use native.Mathlib.Omega.{arith}
-use lib.ListN.{length, take, drop}
+use lib.ListN.{length, take, drop, length-drop}
 use borrow.Author.Needs.{needs}
 use Rattle.format.specs.Reading.{Parts}
 use Rattle.sections.specs.declared.Places.the-variants.{Four}
 use Rattle.format.proofs.Typed.{the}
 use Rattle.read_split.specs.TextJudged.{Stands, Judged, bodyBehind}
 use Rattle.format.proofs.Lists.{rest-is}
-use Rattle.format.specs.Bytes.{Bytes, pasted}
-use Rattle.octets.proofs.Paste.{pasted-start}
+use Rattle.format.specs.Bytes.{Bytes, over}
 use Rattle.sections.specs.Body.{joined}
+use Rattle.sections.proofs.BodyParts.{filled-body}
 use Rattle.read_split.proofs.TextJudged.{three, parts-stand}
 use Rattle.read_split.proofs.BodyAnswers.{found-none, found-long, found-inside, found-short, found-outside}
 use Rattle.read_split.proofs.read_body.Statement.{statement}
@@ -64,16 +64,18 @@ returns-3 c =
     found-short (args .text .now) (parts-at at) (parts-stand _ _ _ _ _ _ _ _ (stands-at at)) _ (the tie.After-body-len (search) .body-len .ensures) (omega arith)
     (sym (stands-at at .separated) ∙ the tie.Else2 (search) .if2 .left) (args .buffer .now) (omega arith) (omega arith)
 
-sub-join-into : tie.Need-sub-join-into
-sub-join-into c = omega (arith, rest-within (search))
+sub-join-body : tie.Need-sub-join-body
+sub-join-body c = omega (arith, rest-within (search))
 
-part-join-into-start : tie.Need-part-join-into-start
-part-join-into-start c = omega (arith, rest-within (search))
+part-join-body-start : tie.Need-part-join-body-start
+part-join-body-start c = omega (arith, rest-within (search))
 
-join-into-requires : tie.Need-join-into-requires
-join-into-requires c κs =
+join-body-requires : tie.Need-join-body-requires
+join-body-requires c κs =
     let at : tie.After-known-told2 = search in
-    omega (arith, ap length (joined-is at (the tie.Else2 (search) .if2 .left)), the tie.After-body-len (search) .body-len .ensures)
+    let t = the tie.Start (search) .args .text .now in
+    let rest = the tie.After-judgement2 (search) .judgement2 .given .0 .1 .1 .1 .1 .1 .1 .0 in
+    rw (rest-is t rest, length-drop rest t) (omega (arith, stands-at at .short))
 
 returns-4 : tie.Need-returns-4
 returns-4 c =
@@ -86,10 +88,12 @@ returns-5 c =
     let args = the tie.Start (search) .args in
     found-outside (args .text .now) (parts-at at) (parts-stand _ _ _ _ _ _ _ _ (stands-at at)) _ (the tie.After-body-len (search) .body-len .ensures) (omega arith)
     (sym (stands-at at .separated) ∙ the tie.Else2 (search) .if2 .left) (args .buffer .now) _ (omega arith)
-    (the tie.After-join-into (search) .join-into .ensures ∙ ap (λ (s : Bytes). pasted 0 s (args .buffer .now)) (joined-is at (the tie.Else2 (search) .if2 .left)) ∙ pasted-start (parts-at at .body) (args .buffer .now))
+    (the tie.After-join-body (search) .join-body .ensures .1
+    ∙ filled-body _ (args .buffer .now) (omega (arith, ap length (joined-is at (the tie.Else2 (search) .if2 .left)), the tie.After-body-len (search) .body-len .ensures))
+    ∙ ap (λ (b : Bytes). over b (args .buffer .now)) (joined-is at (the tie.Else2 (search) .if2 .left)))
 
 pub read-body-spec : {M : Type 1} → statement M
 read-body-spec =
     tie.close
-    (tie.spec (λ c κs. search needs) (λ c. search needs) (λ c. search needs) body-len-requires returns returns-2 returns-3 sub-join-into
-    part-join-into-start (λ c. search needs) join-into-requires returns-4 (λ c. search needs) returns-5)
+    (tie.spec (λ c κs. search needs) (λ c. search needs) (λ c. search needs) body-len-requires returns returns-2 returns-3 sub-join-body
+    part-join-body-start (λ c. search needs) join-body-requires returns-4 (λ c. search needs) returns-5)

@@ -153,10 +153,7 @@ impl Rows {
     fn bodies(&mut self) {
         let table = "Bodies beside `split` and `join`, and `from_utf8_lossy` and `push_str`";
         let sizes = &SIZES[3..];
-        let here = |s: &String, out: &mut [u8]| {
-            join_into(out, s.as_bytes());
-            0
-        };
+        let here = |s: &String, out: &mut [u8]| join_body(out, s.as_bytes());
         let there = |s: &String, _: &mut [u8]| s.split("\n\n").collect::<Vec<_>>().join("\r\n\r\n").len();
         self.row((table, "LFLF joined as CRLFCRLF, every 76 bytes", None), sizes, lf_blank_lines, here, there);
         let written = |s: &Vec<u8>, _: &mut [u8]| {

@@ -19,7 +19,7 @@ macro_rules! leaves {
 
 leaves! {
     is_utf8 is_white is_control trim replaced_len put_replaced escaped_len escape value_text_len put_value_text reads unescaped_len unescape
-    find find_plain joined_len join_into copy_at shift zero_fill before same same_letters says find_byte
+    find find_plain joined_len join_body copy_at shift zero_fill before same same_letters says find_byte
 }
 
 /// How many bytes before and behind lent room are watched, and how much room is lent at most.

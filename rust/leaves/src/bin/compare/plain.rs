@@ -81,15 +81,21 @@ pub fn found(s: &[u8], pattern: &[u8]) -> usize {
     place.unwrap_or(s.len())
 }
 
-/// `split` at LFLF and `join` by CRLFCRLF; bytes that are not UTF-8 are put as the characters of their numbers.
-pub fn joined(s: &[u8]) -> Vec<u8> {
+/// `split` at LFLF and `join` by CRLFCRLF, and where each piece ends then; bytes that are not UTF-8 are put as the characters of their numbers.
+pub fn joined(s: &[u8]) -> (Vec<u8>, Vec<usize>) {
     let text: Cow<str> = match from_utf8(s) {
         Ok(text) => text.into(),
         Err(_) => s.iter().map(|b| char::from(*b)).collect(),
     };
-    let all = text.split("\n\n").collect::<Vec<_>>().join("\r\n\r\n");
-    match text {
-        Cow::Borrowed(_) => all.into_bytes(),
-        Cow::Owned(_) => all.chars().map(|c| c as u8).collect(),
-    }
+    let bytes = |piece: &str| match text {
+        Cow::Borrowed(_) => piece.as_bytes().to_vec(),
+        Cow::Owned(_) => piece.chars().map(|c| c as u8).collect(),
+    };
+    let pieces: Vec<_> = text.split("\n\n").map(bytes).collect();
+    let ends = pieces.iter().scan(0, |next, piece| {
+        let end = *next + piece.len();
+        *next = end + 4;
+        Some(end)
+    });
+    (pieces.join(&b"\r\n\r\n"[..]), ends.collect())
 }

@@ -1,6 +1,6 @@
 //! The search beside `str::find`, and the joining of an LFLF body beside `split` and `join`.
 
-use crate::compared::{Compared, Leaf};
+use crate::compared::{put, Compared, Leaf};
 use crate::inputs;
 use crate::plain::{found, joined};
 use leaves::*;
@@ -11,16 +11,23 @@ pub fn finds(c: &mut Compared, text: &[u8], pattern: &[u8]) {
     c.expect(Leaf::find_plain, &(text, pattern), find_plain(text, pattern), want);
 }
 
-pub fn joined_lens(c: &mut Compared, s: &[u8]) -> Vec<u8> {
-    let want = joined(s);
+pub fn joined_lens(c: &mut Compared, s: &[u8]) -> (Vec<u8>, Vec<usize>) {
+    let (want, ends) = joined(s);
     c.expect(Leaf::joined_len, &s, joined_len(s), want.len());
-    want
+    (want, ends)
 }
 
+/// In room for all pieces, and in too little: then those are written that fit one behind another, and the length is that of all.
 pub fn joins(c: &mut Compared, s: &[u8]) {
-    let want = joined_lens(c, s);
-    let len = want.len() + c.spare();
-    c.expect_written(Leaf::join_into, &s, len, |out| join_into(out, s), |out| out[..want.len()].copy_from_slice(&want));
+    let (want, ends) = joined_lens(c, s);
+    for len in [want.len() + c.spare(), want.len().saturating_sub(1 + c.spare())] {
+        let fits = ends.iter().copied().take_while(|end| *end <= len).last().unwrap_or(0);
+        let rust = |out: &mut [u8]| {
+            put(out, &want[..fits]);
+            want.len()
+        };
+        c.expect_written(Leaf::join_body, &s, len, |out| join_body(out, s), rust);
+    }
 }
 
 /// Each scalar value as text and as pattern, beside its neighbour, and in texts of more than a block.
