@@ -68,10 +68,10 @@ compare: cargo library gateway notice
 	@cargo run --release $(RUST) --bin texts
 	@cargo run --release $(RUST) --bin gateway
 
-# The gateway's crate by itself: its build script, its tests and the examples in its comments; the C header, and header lines by both readings.
+# The gateway's crate by itself: its build script, its tests and the examples in its comments; the C header, header lines by both readings, and bodies under LFLF.
 gateway: cargo library
 	@.ci/build-test
-	@for tests in '-p cpim' '-p beside --test c_header --test second_reading'; do \
+	@for tests in '-p cpim' '-p beside --test c_header --test second_reading --test lf_body'; do \
 	  out=$$(cargo test $(RUST) $$tests 2>&1) || { printf '%s\n' "$$out"; exit 1; }; \
 	done
 

@@ -168,7 +168,7 @@ pub fn all() {
     assert_eq!(NOTICE.len(), 379);
     let crlf = text(Script::Ascii, "\r\n", LARGE);
     reading("(a) reading, CRLF, body of 10,485,760 bytes", 0.2, &crlf, LARGE);
-    reading("(b) reading, LF, the same body", 0.4, &text(Script::Ascii, "\n", LARGE), LARGE);
+    reading("(b) reading, LF, the same body", 0.28, &text(Script::Ascii, "\n", LARGE), LARGE);
     writing("(c) writing it", 0.35, &crlf);
     for (script, name) in [(Script::German, "German"), (Script::Greek, "Greek")] {
         let text = text(script, "\r\n", LARGE);
