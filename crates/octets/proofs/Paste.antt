@@ -7,7 +7,7 @@ use native.Mathlib.Nat.{add-zero, add-assoc, zero-add, suc-add}
 use native.Mathlib.Numerals.{add-one}
 use native.Mathlib.Omega.{arith}
 use lib.ListN.{length, take, drop, getD, set, length-append, length-take, length-drop, take-append-drop, drop-of-length-le}
-use lib.Seq.{paste, take-length, length-take-le, take-at, drop-at, take-nil, take-append-le, take-take, take-add, take-suc, drop-drop, take-append-seam, drop-append-seam, set-split}
+use lib.Seq.{paste, take-length, length-take-le, take-at, drop-at, take-nil, take-append-le, take-take, take-suc, drop-drop, set-split}
 use Rattle.format.specs.Bytes.{Bytes, pasted, over}
 
 -- nothing pasted changes nothing
@@ -135,27 +135,3 @@ pasted-next at s d i h k =
     ap (λ (n : ℕ). set (pasted at (take i s) d) (at + n) (getD s i 0)) (sym e)
     ∙ pasted-more at (take i s) d (getD s i 0) (rw e k)
     ∙ ap (λ (l : Bytes). pasted at l d) (sym (take-suc s i 0 h) ∙ ap (λ (n : ℕ). take n s) (sym (add-one i)))
-
--- a list of which n elements are passed, and x stands next
-module _ (j x y : Bytes) (n : ℕ) (next : drop n j ≡ x ++ y) where
-  pub drop-next : drop (n + length x) j ≡ y
-  drop-next = sym (drop-drop (length x) n j) ∙ rw next (drop-append-seam x y)
-
-  pub take-next : take (n + length x) j ≡ take n j ++ x
-  take-next = take-add n (length x) j ∙ rw next (ap (λ (s : Bytes). take n j ++ s) (take-append-seam x y))
-
-  pub next-fits : n ≤ length j → n + length x ≤ length j
-  next-fits h = omega (arith, sym (length-drop n j) ∙ ap length next ∙ length-append x y)
-
-  -- the first n bytes of j are written, and x behind them
-  pub pasted-part : (at : ℕ) (d : Bytes) → n ≤ length j → at ≤ length d → pasted (at + n) x (pasted at (take n j) d) ≡ pasted at (take (n + length x) j) d
-  pasted-part at d h k =
-      let e : length (take n j) ≡ n = length-take-le n j h in
-      ap (λ (i : ℕ). pasted (at + i) x (pasted at (take n j) d)) (sym e) ∙ pasted-pasted at (take n j) x d k ∙ ap (λ (s : Bytes). pasted at s d) (sym take-next)
-
--- the last bytes of j are written
-pub pasted-end : (j x d : Bytes) (n at : ℕ) → drop n j ≡ x → n ≤ length j → at ≤ length d → pasted (at + n) x (pasted at (take n j) d) ≡ pasted at j d
-pasted-end j x d n at h l k =
-    let e : drop n j ≡ x ++ [] = h ∙ sym (append-nil x) in
-    let all : n + length x ≡ length j = omega (arith, sym (length-drop n j) ∙ ap length h) in
-    pasted-part j x [] n e at d l k ∙ rw (all, take-length j) refl

@@ -11,7 +11,7 @@ use Rattle.format.specs.Limits.{maxBody}
 use Rattle.format.specs.Refusals.{Refusal, noMessageCpim, bodyTooLong, tooShort, Out, accepted, refused, Check, refuseIf, _>>_, _>>=_}
 use Rattle.format.specs.Message.{Header, Message, need}
 use Rattle.format.specs.Calls.{Stores, room, enough, bodyLength, setBody, withBody}
-use Rattle.format.specs.Reading.{each, lines, readContentLine, blank, saysCpim, Parts, textParts, readHeaderLine, readParts, readWith}
+use Rattle.format.specs.Reading.{each, lines, readContentLine, blank, saysCpim, Parts, textParts, readParts, readWith}
 use Rattle.format.proofs.Steps.{then-on, then-passed, bind-on, bind-passed}
 use Rattle.format.proofs.Answers.{over-limit, space-enough}
 use Rattle.message.proofs.BodyStored.{body-within}

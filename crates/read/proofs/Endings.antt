@@ -1,26 +1,22 @@
 -- What `parse_head` and `parse_cpim` ensure, by what the lines of a text give and by its body, for any reader of a header line. Assumes nothing.
-use Prim.Native.Nat.{ℕ, suc, _+_, _-_, _^_, _≤_, _<_}
+use Prim.Native.Nat.{ℕ, _-_, _^_, _≤_, _<_}
 use mathlib.Core.Path.{_≡_, refl, sym, ap, subst, _∙_}
 use mathlib.Core.Bool.{Bool, true, false, true≢false}
-use mathlib.Core.Logic.{⊎-elim}
 use mathlib.Core.Option.{some}
 use native.Mathlib.Omega.{arith}
-use lib.Dec.{ltb}
 use lib.ListN.{length, drop, replicate, length-drop}
-use borrow.Author.Tests.{ltb-true, ltb-false}
 use Rattle.format.specs.Bytes.{Bytes, if_then_else_, LFLF, pieces, split, over}
 use Rattle.format.specs.Limits.{maxBody, maxText}
-use Rattle.format.specs.Refusals.{Refusal, bodyTooLong, tooShort, table, Out, accepted, refused, numbers, _>>=_}
+use Rattle.format.specs.Refusals.{table, Out, accepted, numbers}
 use Rattle.format.specs.Message.{Header, Message}
-use Rattle.format.specs.Calls.{Stores, withBody}
+use Rattle.format.specs.Calls.{withBody}
 use Rattle.format.specs.Reading.{Parts, textParts, readWith}
 use Rattle.format.specs.LookingUp.{inText}
-use Rattle.format.specs.Layout.{Lent, Holds, recordOf, emptyMessage}
+use Rattle.format.specs.Layout.{emptyMessage}
 use Rattle.format.specs.Lending.{headLent, bothLent, lengthOf, lengths, numbersOf, zeroed, ReadInto, ReadLeaves, ParsedWith}
 use Rattle.format.specs.declared.Numbers.{Numbers}
 use Rattle.format.specs.declared.CpimMessage.{CpimMessage}
 use Rattle.format.specs.declared.Answer.{Answer}
-use Rattle.format.proofs.Lists.{bcase}
 use Rattle.format.proofs.Steps.{accepted-same, refused-accepted, bind-accepted}
 use Rattle.format.proofs.Answers.{carried}
 use Rattle.sections.proofs.Joining.{body-crlf}
@@ -29,9 +25,9 @@ use Rattle.read_split.specs.TextJudged.{bodyBehind}
 use Rattle.read.specs.declared.HeadAnswer.{HeadAnswer}
 use Rattle.read.specs.SectionLines.{LinesRead}
 use Rattle.read.specs.Heads.{anyBody, readHeadWith, headNumbers, standsIn, startOf, HeadParsedWith}
-use Rattle.read.specs.TextLines.{readSections, readLinesWith, joinedOver, copiedOver, bodied, BodyStands}
+use Rattle.read.specs.TextLines.{readLinesWith, joinedOver, copiedOver, BodyStands}
 use Rattle.read.proofs.LinesLoop.{zero-accepted, other-refused}
-use Rattle.read.proofs.ReadStores.{body-into}
+use Rattle.read.proofs.ReadStores.{bodied, body-into}
 use Rattle.read.proofs.BodyLast.{lines-refused, read-long, read-short, read-whole}
 
 -- zeros over a store that kept its length
@@ -39,9 +35,9 @@ pub zeros-kept : (a b after : Bytes) → length a ≡ length b → after ≡ zer
 zeros-kept a b after e f = f ∙ ap (λ (n : ℕ). replicate n 0) e
 
 -- a store with room for the body holds it once its sections are joined over it, or it is copied there
-pub body-over : (crlf : Bool) (s d : Bytes) → length (bodyBehind crlf s) ≤ length d → copiedOver crlf s (joinedOver crlf s d) ≡ over (bodyBehind crlf s) d
-body-over true s d h = rw (body-crlf s) refl
-body-over false s d h = filled-body (pieces (split LFLF s)) d h
+pub body-stored : (crlf : Bool) (s d : Bytes) → length (bodyBehind crlf s) ≤ length d → copiedOver crlf s (joinedOver crlf s d) ≡ over (bodyBehind crlf s) d
+body-stored true s d h = rw (body-crlf s) refl
+body-stored false s d h = filled-body (pieces (split LFLF s)) d h
 
 -- A refusal, of `parse_head` and of `parse_cpim`, by its numbers.
 module _ (reader : Bytes → Out Header) (t head : Bytes) (n : Numbers) (z : n .number ≡ 0 → ⊥) where
@@ -95,8 +91,8 @@ module _ (reader : Bytes → Out Header) (t head : Bytes) (m : CpimMessage) (aft
     body-stands : BodyStands t inside start (parts-are .0 .body)
     body-stands = stands (parts-are .0) (parts-are .1)
 
-    pub body-within : (start ≤ length t) × (length t ≤ maxText)
-    body-within = (body-stands .within, body-stands .short)
+    pub body-placed : (start ≤ length t) × (length t ≤ maxText)
+    body-placed = (body-stands .within, body-stands .short)
 
     -- the body has b bytes
     module _ (b : ℕ) (size : b ≡ length (bodyBehind inside (drop start t))) where
@@ -173,6 +169,6 @@ module _ (reader : Bytes → Out Header) (t head : Bytes) (m : CpimMessage) (aft
                       recorded = into .recorded;
                       laid = into .laid;
                       kept = into .kept;
-                      stored = ap some (e ∙ body-over inside (drop start t) body (omega arith) ∙ ap (λ (x : Bytes). over x body) (sym (body-stands .behind)));
+                      stored = ap some (e ∙ body-stored inside (drop start t) body (omega arith) ∙ ap (λ (x : Bytes). over x body) (sym (body-stands .behind)));
                     });
               }

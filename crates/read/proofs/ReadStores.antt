@@ -1,5 +1,5 @@
 -- What reading starts from, and its end: the record with the body's length. Assumes nothing.
-use Prim.Native.Nat.{ℕ, _≤_}
+use Prim.Native.Nat.{ℕ}
 use mathlib.Core.Path.{_≡_, refl, sym, ap, _∙_}
 use mathlib.Core.Bool.{true}
 use mathlib.Core.List.{append-nil}
@@ -20,7 +20,6 @@ use Rattle.format.proofs.Messages.Parts.{message-whole}
 use Rattle.octets.proofs.Paste.{take-front}
 use Rattle.read_content_line.specs.Types.{typeBytes}
 use Rattle.read_content_line.proofs.Typing.{type-long, layout-type}
-use Rattle.read.specs.TextLines.{bodied}
 
 -- the type that reading starts with, by computation
 plain-type : passes (contentType (ascii "text/plain")) ≡ true
@@ -51,7 +50,11 @@ blank-held head after e =
       stored = tt;
     }
 
--- the record with a body's length, and the same head store, are those of the message with that body
+-- the record of a message with a body of n bytes
+abbrev pub bodied : CpimMessage → ℕ → CpimMessage
+bodied m n = record { typelen = m .typelen; headers = m .headers; headerlen = m .headerlen; contents = m .contents; contentlen = m .contentlen; bodylen = n }
+
+-- it and the same head store are those of the message with that body
 pub body-into : (m : CpimMessage) (first head b : Bytes) (k : Message) (n : ℕ) → Holds (headLent m head) k → length head ≡ length first → n ≡ length b
     → ReadInto (headLent emptyMessage first) (headLent (bodied m n) head) (withBody k b)
 unfolding need layout recordOf

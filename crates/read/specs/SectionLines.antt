@@ -1,4 +1,4 @@
--- What reading lines ensures, those of a section or of a text. Assumes nothing.
+-- What reading the lines of a section or of a text ensures. Assumes nothing.
 use mathlib.Core.Path.{_≡_}
 use Rattle.format.specs.Refusals.{Out, accepted, numbers}
 use Rattle.format.specs.Message.{Message}

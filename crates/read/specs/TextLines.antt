@@ -11,7 +11,6 @@ use Rattle.format.specs.Message.{Header, Message, need}
 use Rattle.format.specs.Calls.{room}
 use Rattle.format.specs.Reading.{each, lines, readContentLine, blank, saysCpim, textParts, readHeaderLine}
 use Rattle.format.specs.LookingUp.{inText}
-use Rattle.format.specs.declared.CpimMessage.{CpimMessage}
 use Rattle.sections.specs.Body.{bodyParts, filled}
 use Rattle.read_split.specs.TextJudged.{bodyBehind}
 use Rattle.read.specs.Heads.{anyBody}
@@ -30,7 +29,7 @@ readLinesWith reader t head = do
   p ← textParts t
   readSections reader (p .mime) (p .headers) (p .contents) head
 
--- the body b is what stands in the text t behind a place, or the sections there, joined
+-- the body b is what stands in the text t, which is within its limit, behind a place, or the sections there, joined
 pub record BodyStands (t : Bytes) (crlf : Bool) (rest : ℕ) (b : Bytes) : Type 0 where
   pub short : length t ≤ maxText
   pub separated : crlf ≡ inText t
@@ -43,7 +42,3 @@ joinedOver crlf s store = if crlf then store else filled 0 (bodyParts (pieces (s
 
 abbrev pub copiedOver : Bool → Bytes → Bytes → Bytes
 copiedOver crlf s store = if crlf then over s store else store
-
--- the record of a message with a body of n bytes
-abbrev pub bodied : CpimMessage → ℕ → CpimMessage
-bodied m n = record { typelen = m .typelen; headers = m .headers; headerlen = m .headerlen; contents = m .contents; contentlen = m .contentlen; bodylen = n }

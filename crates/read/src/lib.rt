@@ -1,8 +1,8 @@
 // Document 01, "Reading": `parse_cpim`, and `parse_head`, which leaves the body where it stands. Document 02, T-01:
 // `parse_cpim_rfc` and `parse_head_rfc`, the same with the second reader of a header line. A text is judged
 // (`read_split`), its header lines and content lines are read into the head store (`section_lines`), and its body is
-// measured, or by `parse_cpim` and `parse_cpim_rfc` laid into the body store and then judged: a refused reading leaves
-// zeros in what it is lent.
+// measured, or by `parse_cpim` and `parse_cpim_rfc` laid into the body store: under LFLF it is joined there and then
+// judged, under CRLFCRLF judged and then copied. A refused reading leaves zeros in what it is lent.
 
 mod section_lines;
 
@@ -133,8 +133,8 @@ fn read_text(manner: Manner, text: &[u8], head: &mut [u8]) -> HeadAnswer
     }
 }
 
-// The body's length. Under LFLF the sections are joined over the store as they are counted, so that they are looked for once.
-fn measure_body(text: &[u8], crlf: bool, rest: usize, store: &mut [u8]) -> usize
+// The body's length. Under LFLF its sections are joined over the store as they are counted, so that they are looked for once.
+fn join_or_measure(text: &[u8], crlf: bool, rest: usize, store: &mut [u8]) -> usize
     requires { ⌜ (rest ≤ length (now text)) × (length (now text) ≤ maxText) ⌝ }
     ensures length { λ r. ⌜ r ≡ length (bodyBehind crlf (drop rest (now (text .entry)))) ⌝ }
     ensures bytes { λ _. ⌜ now (store .exit) ≡ joinedOver crlf (drop rest (now (text .entry))) (now (store .entry)) ⌝ }
@@ -156,7 +156,7 @@ fn copy_body(text: &[u8], crlf: bool, rest: usize, store: &mut [u8])
     copy_at(store, 0, &text[rest..]);
 }
 
-// A text read into a lent head store, which a refusal leaves anyhow.
+// A text read into a lent head store, whose bytes are free where it is refused.
 fn read_head(manner: Manner, text: &[u8], head: &mut [u8]) -> HeadAnswer
     ensures answered { λ r. ⌜ headNumbers r ≡ numbers (readHeadWith (lineReader manner) (now (text .entry)) (length (now (head .entry)))) ⌝ }
     ensures read { λ r. ⌜ (r .number ≡ 0 → HeadParsedWith (lineReader manner) (now (text .entry)) (headLent emptyMessage (now (head .entry))) (headLent (r .message) (now (head .exit))) r) ⌝ }
@@ -216,7 +216,7 @@ pub fn parse_head_rfc(text: &[u8], head: &mut [u8]) -> HeadAnswer
     head_by(Manner::Rfc, text, head)
 }
 
-// A text read into lent stores, which a refusal leaves anyhow: an LFLF body is joined before it is judged.
+// A text read into lent stores, whose bytes are free where it is refused: so an LFLF body may be joined before it is judged.
 fn read_both(manner: Manner, text: &[u8], head: &mut [u8], body: &mut [u8]) -> Answer
     ensures answered { λ r. ⌜ numbersOf r ≡ numbers (readWith (lineReader manner) (now (text .entry)) (lengths (bothLent emptyMessage (now (head .entry)) (now (body .entry))))) ⌝ }
     ensures read { λ r. ⌜ (r .number ≡ 0 → ParsedWith (lineReader manner) (now (text .entry)) (bothLent emptyMessage (now (head .entry)) (now (body .entry))) (bothLent (r .message) (now (head .exit)) (now (body .exit))) (numbersOf r)) ⌝ }
@@ -225,7 +225,7 @@ fn read_both(manner: Manner, text: &[u8], head: &mut [u8], body: &mut [u8]) -> A
     if r.number != 0 {
         return no_message(r.number, r.carried);
     }
-    let len = measure_body(text, r.in_text, r.start, body);
+    let len = join_or_measure(text, r.in_text, r.start, body);
     if MAX_BODY_SIZE < len {
         return no_message(23, len as u64);
     }

@@ -5,25 +5,24 @@ use mathlib.Core.Bool.{Bool, true, false}
 use mathlib.Core.List.{List, [], _∷_, _++_}
 use native.Mathlib.Omega.{arith}
 use lib.ListN.{length, take, drop, length-append}
-use lib.Seq.{take-append-seam, drop-append-seam, take-length}
+use lib.Seq.{take-append-seam, drop-append-seam}
 use borrow.Author.Tests.{le-leb, lt-leb}
-use Rattle.format.specs.Bytes.{Bytes, if_then_else_, LFLF, Pieces, CRLFCRLF, pieces, split, join, total, texts, pasted, over}
-use Rattle.format.specs.Reading.{bodyOf}
+use Rattle.format.specs.Bytes.{Bytes, if_then_else_, Pieces, CRLFCRLF, pieces, join, total, texts, pasted, over}
+use Rattle.format.specs.Characters.{flat}
+use Rattle.format.specs.Limits.{maxText}
+use Rattle.format.specs.Refusals.{textTooLong, accepted, atMost}
+use Rattle.format.specs.Validators.{utf8}
+use Rattle.format.specs.Reading.{sections, bodyOf, Parts, partsOf, textParts}
 use Rattle.format.proofs.Lists.{texts-append, length-texts}
+use Rattle.format.proofs.Steps.{accepted-same, refused-accepted, then-accepted}
 use Rattle.octets.proofs.Paste.{pasted-nil, length-pasted, pasted-pasted, pasted-start, pasted-all}
-use Rattle.sections.specs.declared.Piece.{Piece}
-use Rattle.sections.specs.Body.{joined, led, partsFrom, bodyParts, filled}
-use Rattle.sections.proofs.Cutting.{More}
+use Rattle.sections.specs.Body.{led, partsFrom, bodyParts, filled}
 
 -- the length of a part
 pub led-length : (ahead : Bool) (s : Bytes) → length (led ahead s) ≡ (if ahead then 4 else 0) + length s
 unfolding led
 led-length true s = length-append CRLFCRLF s
 led-length false s = omega arith
-
--- all of a list of texts, one behind another
-abbrev pub flat : List Bytes → Bytes
-flat ps = texts (λ p. p) ps
 
 -- the parts of a body make it up
 parts-led : (ss : List Bytes) → flat (partsFrom true ss) ≡ texts (λ s. CRLFCRLF ++ s) ss
@@ -57,6 +56,33 @@ part-place ss before after p e =
     ∙ ap (λ (n : ℕ). take (length p) (drop n (flat before ++ (p ++ flat after)))) (sym (length-texts (λ q. q) before))
     ∙ ap (take (length p)) (drop-append-seam (flat before) (p ++ flat after))
     ∙ take-append-seam p (flat after)
+
+-- T-05 of a text that has a body: the sections from the fourth on have parts, one for each, which stand one behind another and make it up.
+pub record PartsOfBody (t b : Bytes) (ss : List Bytes) : Type 0 where
+  pub fourth : (first : Bytes) × (second : Bytes) × (third : Bytes) × (sections t ≡ first ∷ second ∷ third ∷ ss)
+  pub make-up : flat (bodyParts ss) ≡ b
+  pub stand : (before after : List Bytes) (p : Bytes) → bodyParts ss ≡ before ++ (p ∷ after) → take (length p) (drop (total length before) b) ≡ p
+
+by-sections : (t : Bytes) (cut : List Bytes) (p : Parts) → sections t ≡ cut → partsOf cut ≡ accepted p → (ss : List Bytes) × PartsOfBody t (p .body) ss
+unfolding partsOf
+by-sections t [] p e h = refused-accepted _ p h
+by-sections t (a ∷ []) p e h = refused-accepted _ p h
+by-sections t (a ∷ b ∷ []) p e h = refused-accepted _ p h
+by-sections t (a ∷ b ∷ c ∷ []) p e h = refused-accepted _ p h
+by-sections t (a ∷ b ∷ c ∷ d ∷ rest) p e h =
+    let body : bodyOf (d ∷ rest) ≡ p .body = ap (λ (q : Parts). q .body) (accepted-same _ p h) in (
+      d ∷ rest,
+      record {
+        fourth = (a, b, c, e);
+        make-up = parts-make-body (d ∷ rest) ∙ body;
+        stand = λ before after q k. ap (λ (x : Bytes). take (length q) (drop (total length before) x)) (sym body) ∙ part-place (d ∷ rest) before after q k;
+      },
+    )
+
+pub parts-of-body : (t : Bytes) (p : Parts) → textParts t ≡ accepted p → (ss : List Bytes) × PartsOfBody t (p .body) ss
+unfolding textParts
+parts-of-body t p h =
+    by-sections t (sections t) p refl (then-accepted (utf8 t) _ p (then-accepted (atMost maxText textTooLong (length t)) _ p h .0) .0)
 
 -- one part more, or none
 module _ (at : ℕ) (p : Bytes) (ps : List Bytes) (d : Bytes) where

@@ -43,10 +43,10 @@ cut-clear : (p t : Bytes) → (cutOf p t) .last ≡ true → occurs p t ≡ fals
 unfolding cutOf
 cut-clear p t h = ⊎-elim (λ k. absurd (false≢true (sym (rw k refl) ∙ h))) (λ k. k) (bcase (occurs p t))
 
-pub more-occurs : (p t : Bytes) (r : Piece) → r ≡ cutOf p t → r .last ≡ false → occurs p t ≡ true
+more-occurs : (p t : Bytes) (r : Piece) → r ≡ cutOf p t → r .last ≡ false → occurs p t ≡ true
 more-occurs p t r e h = cut-occurs p t (sym (ap (λ (x : Piece). x .last) e) ∙ h)
 
-pub last-clear : (p t : Bytes) (r : Piece) → r ≡ cutOf p t → r .last ≡ true → occurs p t ≡ false
+last-clear : (p t : Bytes) (r : Piece) → r ≡ cutOf p t → r .last ≡ true → occurs p t ≡ false
 last-clear p t r e h = cut-clear p t (sym (ap (λ (x : Piece). x .last) e) ∙ h)
 
 -- r cuts the first piece off t; rest is what stands behind its separator
@@ -66,11 +66,11 @@ pub cut-last : (p t : Bytes) (r : Piece) → r ≡ cutOf p t → r .last ≡ tru
 cut-last p t r e h = none-pieces p t (last-clear p t r e h)
 
 -- what is before the cut lies within the text, and is the text where there is no separator
-pub cut-within : (p t : Bytes) → (cutOf p t) .end ≤ length t
+cut-within : (p t : Bytes) → (cutOf p t) .end ≤ length t
 unfolding cutOf
 cut-within p t = ⊎-elim (λ h. rw h (place-le p t)) (λ h. rw h (omega arith)) (bcase (occurs p t))
 
-pub last-whole : (p t : Bytes) (r : Piece) → r ≡ cutOf p t → r .last ≡ true → r .end ≡ length t
+last-whole : (p t : Bytes) (r : Piece) → r ≡ cutOf p t → r .last ≡ true → r .end ≡ length t
 unfolding cutOf
 last-whole p t r e h = ap (λ (x : Piece). x .end) e ∙ rw (last-clear p t r e h) refl
 

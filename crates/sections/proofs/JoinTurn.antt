@@ -1,12 +1,12 @@
 -- One turn of the joining: the first section of what is left of a text is cut off, its part of the store is filled and put back, and the
 -- parts that are left are those of the sections behind it. Assumes nothing.
 use Prim.Native.Nat.{ℕ, _+_, _-_, _≤_, _<_}
-use mathlib.Core.Path.{_≡_, refl, sym, ap, _∙_}
+use mathlib.Core.Path.{_≡_, sym, ap, _∙_}
 use mathlib.Core.Bool.{Bool, true, false}
 use mathlib.Core.List.{List, [], _∷_, _++_}
 use mathlib.Core.Logic.{⊎-elim}
 use native.Mathlib.Omega.{arith}
-use lib.ListN.{length, take, drop, length-drop}
+use lib.ListN.{length, take, drop}
 use lib.Seq.{length-take-le, take-length, drop-drop}
 use Rattle.format.specs.Bytes.{Bytes, if_then_else_, LFLF, pieces, split, total, pasted}
 use Rattle.format.proofs.Lists.{bcase}
@@ -14,7 +14,7 @@ use Rattle.octets.proofs.Paste.{length-pasted}
 use Rattle.sections.specs.declared.Piece.{Piece}
 use Rattle.sections.specs.Body.{led, partsFrom, filled}
 use Rattle.sections.specs.Cuts.{cutOf}
-use Rattle.sections.proofs.Cutting.{More, rest-more, rest-last, rest-within, rest-whole}
+use Rattle.sections.proofs.Cutting.{rest-more, rest-last, rest-within, rest-whole}
 use Rattle.sections.proofs.BodyParts.{led-length, filled-next, filled-short}
 
 -- the parts of a text's sections

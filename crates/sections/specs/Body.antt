@@ -15,12 +15,13 @@ joined t = bodyOf (pieces (split LFLF t))
 unfoldable pub led : Bool → Bytes → Bytes
 led ahead s = if ahead then CRLFCRLF ++ s else s
 
--- a part for each section; ahead says whether another stands before the first of them
+-- A part for each section. (The flag, whether another section stands before the first of these, is a device of the recursion: `bodyParts` is
+-- what T-05 speaks of.)
 unfoldable pub partsFrom : Bool → List Bytes → List Bytes
 partsFrom ahead [] = []
 partsFrom ahead (s ∷ ss) = led ahead s ∷ partsFrom true ss
 
--- The parts of a body, one for each section.
+-- the parts of a body, one for each section
 abbrev pub bodyParts : List Bytes → List Bytes
 bodyParts ss = partsFrom false ss
 

@@ -29,7 +29,7 @@ pub fn joined_len(rest: &[u8]) -> usize
 
 // n bytes, and four more for CRLFCRLF ahead of them.
 fn led_len(n: usize, ahead: bool) -> usize
-    requires { ⌜ n ≤ maxText + maxText ⌝ }
+    requires { ⌜ n ≤ maxText ⌝ }
     ensures { λ r. ⌜ r ≡ (if ahead then 4 else 0) + n ⌝ }
 {
     if ahead {
@@ -65,7 +65,11 @@ pub fn join_body(out: &mut [u8], rest: &[u8]) -> usize
         let piece = cut(&rest[from..], b"\n\n");
         let n = led_len(piece.end, ahead);
         if out.len() - to < n {
-            return to + led_len(joined_len(&rest[from..]), ahead);
+            if piece.last {
+                return to + n;
+            }
+            let behind = from + piece.next;
+            return to + n + 4 + joined_len(&rest[behind..]);
         }
         let end = to + n;
         let stop = from + piece.end;

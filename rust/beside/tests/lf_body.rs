@@ -153,6 +153,7 @@ fn sections_joined() {
         ("a\n\n\nb", "a\r\n\r\n\nb", 7),
         ("\n\n\n\n", "\r\n\r\n\r\n\r\n", 8),
         ("aaa\n\nbb\n\nc", "aaa\r\n\r\nbb\r\n\r\nc", 14),
+        ("ü\n\n€", "ü\r\n\r\n€", 9),
     ] {
         let case = Case::joined(START, sections);
         assert_eq!((case.body.as_str(), case.body.len()), (body, len));
@@ -166,7 +167,8 @@ fn every_short_body() {
         for bits in 0..1 << len {
             let sections: String = (0..len).map(|k| if bits >> k & 1 == 0 { '\n' } else { 'a' }).collect();
             let case = Case::joined(START, &sections);
-            case.check([case.body.len() + 1, case.body.len() / 2]);
+            let len = case.body.len();
+            case.check([len + 1, len, len.saturating_sub(1), len / 2]);
         }
     }
 }

@@ -5,7 +5,7 @@ use native.Mathlib.Omega.{arith}
 use lib.ListN.{length, drop}
 use borrow.Author.Needs.{needs}
 use borrow.Author.Tests.{not-true, not-false}
-use Rattle.format.specs.Bytes.{Bytes, over}
+use Rattle.format.specs.Bytes.{Bytes}
 use Rattle.format.proofs.Lists.{rest-is}
 use Rattle.format.proofs.Typed.{the}
 use Rattle.octets.proofs.Paste.{pasted-start}

@@ -1,4 +1,4 @@
--- `read::read_both` meets its contract: what the lines give, then the body, laid down and judged by 23 and 26. Assumes nothing.
+-- `read::read_both` meets its contract: what the lines give, then the body, judged by 23 and 26 and laid down. Assumes nothing.
 use mathlib.Core.Path.{_≡_, sym, ap, _∙_}
 use Prim.Native.Nat.{ℕ, suc}
 use native.Mathlib.Omega.{arith}
@@ -9,7 +9,7 @@ use Rattle.format.specs.Lending.{lengthOf, lengths, numbersOf}
 use Rattle.format.specs.declared.Answer.{Answer}
 use Rattle.format.proofs.Typed.{the}
 use Rattle.read.specs.TextLines.{copiedOver}
-use Rattle.read.proofs.Endings.{told-lines, body-within, told-long, told-short, whole-stored}
+use Rattle.read.proofs.Endings.{told-lines, body-placed, told-long, told-short, whole-stored}
 use Rattle.read.proofs.read_both.Statement.{statement}
 use Rattle.read.proofs.read_both.Tie as tie
 
@@ -26,14 +26,14 @@ returns c =
     let taken = the tie.Then1 (search) .if1 .taken in
     (ap numbersOf no ∙ told-lines (lineReader (start .args .manner)) (start .args .text .now) (start .args .head .now) _ _ _ (read .ensures .0) taken (length (start .args .body .now)), λ z. absurd (taken (sym (ap (λ (a : Answer). a .number) no) ∙ z)))
 
-measure-body-requires : tie.Need-measure-body-requires
-measure-body-requires c κs =
+join-or-measure-requires : tie.Need-join-or-measure-requires
+join-or-measure-requires c κs =
     let start : tie.Start = search in
     let read = the tie.After-read-text (search) .read-text in
-    body-within (lineReader (start .args .manner)) (start .args .text .now) (start .args .head .now) _ _ _ (read .ensures .0) (the tie.Else1 (search) .if1 .left) _ _ (read .ensures .1)
+    body-placed (lineReader (start .args .manner)) (start .args .text .now) (start .args .head .now) _ _ _ (read .ensures .0) (the tie.Else1 (search) .if1 .left) _ _ (read .ensures .1)
 
 -- the lines were accepted
-abbrev passed : tie.After-measure-body → tie.Else1
+abbrev passed : tie.After-join-or-measure → tie.Else1
 passed p = search
 
 returns-2 : tie.Need-returns-2
@@ -41,7 +41,7 @@ unfolding lengths lengthOf
 returns-2 c =
     let start : tie.Start = search in
     let read = the tie.After-read-text (search) .read-text in
-    let store = the tie.After-measure-body (search) .measure-body in
+    let store = the tie.After-join-or-measure (search) .join-or-measure in
     let no = the tie.After-no-message2 (search) .no-message2 in (
       ap numbersOf (no .ensures)
           ∙ told-long (lineReader (start .args .manner)) (start .args .text .now) (start .args .head .now) _ _ _ (read .ensures .0) (passed (search) .if1 .left) _ _ (read .ensures .1)
@@ -54,7 +54,7 @@ unfolding lengths lengthOf
 returns-3 c =
     let start : tie.Start = search in
     let read = the tie.After-read-text (search) .read-text in
-    let store = the tie.After-measure-body (search) .measure-body in
+    let store = the tie.After-join-or-measure (search) .join-or-measure in
     let no = the tie.After-no-message3 (search) .no-message3 in
     let short = the tie.Else2 (search) .if2 in (
       ap numbersOf (no .ensures)
@@ -68,14 +68,14 @@ copy-body-requires : tie.Need-copy-body-requires
 copy-body-requires c κs =
     let start : tie.Start = search in
     let read = the tie.After-read-text (search) .read-text in
-    let store = the tie.After-measure-body (search) .measure-body in
-    (body-within (lineReader (start .args .manner)) (start .args .text .now) (start .args .head .now) _ _ _ (read .ensures .0) (passed (search) .if1 .left) _ _ (read .ensures .1) .0, omega (arith, store .ensures .0))
+    let store = the tie.After-join-or-measure (search) .join-or-measure in
+    (body-placed (lineReader (start .args .manner)) (start .args .text .now) (start .args .head .now) _ _ _ (read .ensures .0) (passed (search) .if1 .left) _ _ (read .ensures .1) .0, omega (arith, store .ensures .0))
 
 returns-4 : tie.Need-returns-4
 returns-4 c =
     let start : tie.Start = search in
     let read = the tie.After-read-text (search) .read-text in
-    let store = the tie.After-measure-body (search) .measure-body in
+    let store = the tie.After-join-or-measure (search) .join-or-measure in
     let parsed =
     whole-stored (lineReader (start .args .manner)) (start .args .text .now) (start .args .head .now) _ _ _ (read .ensures .0) (passed (search) .if1 .left) _ _ (read .ensures .1)
     _ (store .ensures .0) (omega (arith, the tie.Else2 (search) .if2)) (read .kept .1 .1 .0) (start .args .body .now) _ (omega (arith, the tie.Else3 (search) .if3, store .kept .1 .1 .1 .0))
@@ -85,6 +85,6 @@ returns-4 c =
 pub read-both-spec : {M : Type 1} → statement M
 read-both-spec =
     tie.close
-    (tie.spec (λ c κs. search needs) (λ c κs. search needs) (λ c. search needs) returns measure-body-requires (λ c κs. search needs) (λ c. search needs)
+    (tie.spec (λ c κs. search needs) (λ c κs. search needs) (λ c. search needs) returns join-or-measure-requires (λ c κs. search needs) (λ c. search needs)
     (λ c. search needs) returns-2 (λ c κs. search needs) (λ c. search needs) (λ c. search needs) returns-3 copy-body-requires (λ c. search needs)
     (λ c. search needs) returns-4)

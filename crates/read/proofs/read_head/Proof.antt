@@ -10,7 +10,7 @@ use Rattle.format.specs.Lending.{numbersOf}
 use Rattle.format.proofs.Typed.{the}
 use Rattle.read.specs.Heads.{anyBody, readHeadWith, headNumbers}
 use Rattle.read.specs.declared.HeadAnswer.{HeadAnswer}
-use Rattle.read.proofs.Endings.{told-lines, body-within, told-long, head-inside, head-outside}
+use Rattle.read.proofs.Endings.{told-lines, body-placed, told-long, head-inside, head-outside}
 use Rattle.read.proofs.read_head.Statement.{statement}
 use Rattle.read.proofs.read_head.Tie as tie
 
@@ -25,7 +25,7 @@ body-len-requires : tie.Need-body-len-requires
 body-len-requires c κs =
     let start : tie.Start = search in
     let read = the tie.After-read-text (search) .read-text in
-    body-within (lineReader (start .args .manner)) (start .args .text .now) (start .args .head .now) _ _ _ (read .ensures .0) (the tie.Else1 (search) .if1 .left) _ _ (read .ensures .1)
+    body-placed (lineReader (start .args .manner)) (start .args .text .now) (start .args .head .now) _ _ _ (read .ensures .0) (the tie.Else1 (search) .if1 .left) _ _ (read .ensures .1)
 
 returns-2 : tie.Need-returns-2
 unfolding readHeadWith anyBody

@@ -1,6 +1,6 @@
 -- `sections::bodies::fill_section` meets its contract: what is copied is as long as the part, so it takes its place (`pasted-all`).
 -- Assumes nothing.
-use mathlib.Core.Path.{_≡_, refl, sym, ap, _∙_}
+use mathlib.Core.Path.{_≡_, sym, ap, _∙_}
 use mathlib.Core.Bool.{Bool, true, false}
 use Prim.Native.Nat.{_+_}
 use native.Mathlib.Omega.{arith}
@@ -49,12 +49,4 @@ returns-2 c =
 pub fill-section-spec : {M : Type 1} → statement M
 fill-section-spec =
     tie.close
-    (tie.spec
-    (λ c. search needs)
-    copy-at-requires
-    copy-at-requires-2
-    (λ c. search needs)
-    returns
-    copy-at-requires-3
-    (λ c. search needs)
-    returns-2)
+    (tie.spec (λ c. search needs) copy-at-requires copy-at-requires-2 (λ c. search needs) returns copy-at-requires-3 (λ c. search needs) returns-2)

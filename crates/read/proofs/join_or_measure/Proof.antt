@@ -1,4 +1,4 @@
--- `read::measure_body` meets its contract: under CRLFCRLF the body is all that is left. Assumes nothing.
+-- `read::join_or_measure` meets its contract: under CRLFCRLF the body is all that is left. Assumes nothing.
 use mathlib.Core.Path.{_≡_, sym, ap, _∙_}
 use mathlib.Core.Bool.{Bool, true, false}
 use Prim.Native.Nat.{_-_}
@@ -12,8 +12,8 @@ use Rattle.sections.specs.Body.{joined}
 use Rattle.sections.proofs.Joining.{body-crlf}
 use Rattle.read_split.specs.TextJudged.{bodyBehind}
 use Rattle.read.specs.TextLines.{joinedOver}
-use Rattle.read.proofs.measure_body.Statement.{statement}
-use Rattle.read.proofs.measure_body.Tie as tie
+use Rattle.read.proofs.join_or_measure.Statement.{statement}
+use Rattle.read.proofs.join_or_measure.Tie as tie
 
 -- what stands behind the place, as it is lent
 abbrev behind : tie.Start → Bytes
@@ -49,8 +49,8 @@ returns-2 c =
       join .ensures .1 ∙ ap (λ (s : Bytes). joinedOver false s (start .args .store .now)) (lent start) ∙ stored start false lf,
     )
 
-pub measure-body-spec : {M : Type 1} → statement M
-measure-body-spec =
+pub join-or-measure-spec : {M : Type 1} → statement M
+join-or-measure-spec =
     tie.close
     (tie.spec (λ c. search needs) returns (λ c. search needs) (λ c. search needs) (λ c. search needs) join-body-requires
     (λ c. search needs) returns-2)
