@@ -1,4 +1,5 @@
--- The parts of a body: they stand one behind another and make it up, and a store that has room for them holds it. Assumes nothing.
+-- The parts of a body: they stand one behind another and make it up, and a store that has room for them holds it once they are laid over
+-- it. Assumes nothing.
 use Prim.Native.Nat.{ℕ, _+_, _≤_, _<_}
 use mathlib.Core.Path.{_≡_, refl, sym, ap, _∙_}
 use mathlib.Core.Bool.{Bool, true, false}
@@ -57,7 +58,8 @@ part-place ss before after p e =
     ∙ ap (take (length p)) (drop-append-seam (flat before) (p ++ flat after))
     ∙ take-append-seam p (flat after)
 
--- T-05 of a text that has a body: the sections from the fourth on have parts, one for each, which stand one behind another and make it up.
+-- T-05 of a text that has a body, under either separator: the sections from the fourth on have parts, one for each, which stand one behind
+-- another and make it up. (That a step is lent its part and fills it is the contract of `bodies::fill_section`.)
 pub record PartsOfBody (t b : Bytes) (ss : List Bytes) : Type 0 where
   pub fourth : (first : Bytes) × (second : Bytes) × (third : Bytes) × (sections t ≡ first ∷ second ∷ third ∷ ss)
   pub make-up : flat (bodyParts ss) ≡ b

@@ -27,7 +27,7 @@ pub fn joined_len(rest: &[u8]) -> usize
     }
 }
 
-// n bytes, and four more for CRLFCRLF ahead of them.
+// n bytes, and four more where CRLFCRLF stands ahead of them.
 fn led_len(n: usize, ahead: bool) -> usize
     requires { ⌜ n ≤ maxText ⌝ }
     ensures { λ r. ⌜ r ≡ (if ahead then 4 else 0) + n ⌝ }
@@ -51,8 +51,8 @@ fn fill_section(part: &mut [u8], section: &[u8], ahead: bool)
     copy_at(part, 0, section);
 }
 
-// The sections of the rest, joined, over the first bytes of out, and how many these are. The first part that does not fit ends
-// the copying: what is left is only measured.
+// The sections of the rest, joined, over the first bytes of out, and how many bytes all of them take. The first part that does
+// not fit ends the copying: what stands behind it is only measured.
 pub fn join_body(out: &mut [u8], rest: &[u8]) -> usize
     requires { ⌜ length (now rest) ≤ maxText ⌝ }
     ensures length { λ r. ⌜ r ≡ length (joined (now (rest .entry))) ⌝ }

@@ -9,7 +9,8 @@ use beside::store::Store;
 use cpim::raw::{self, Answer, BodyPlace, HeadAnswer, Record};
 use source::cpim::{parse_cpim, CpimMessage};
 
-/// Three sections that both readings read alike, each with LFLF behind it. A body that begins with LF stands right behind the third.
+/// Three sections that both readings read alike, each with LFLF behind it. Of three LF in a row the first two are the separator, so a body may begin
+/// with LF.
 const START: &str = "Content-type: Message/CPIM\n\nSubject: Hi\nTo: a\n\nContent-type: text/plain\nContent-ID: 7\n\n";
 const MOST_BODY: usize = 10_485_760;
 /// Room to spare in a head store.
@@ -22,7 +23,7 @@ fn store(len: usize) -> Store {
     store
 }
 
-/// The start of a text, which is ASCII.
+/// The start of a text. The first 200 bytes of a longer one are ASCII.
 fn shown(text: &str) -> String {
     format!("{} bytes: {:?}", text.len(), &text[..text.len().min(200)])
 }
@@ -136,7 +137,7 @@ impl Case {
     }
 }
 
-/// Whichever part is the first without room, a section or CRLFCRLF, 26 carries the whole length.
+/// Wherever the room ends, in a section or in CRLFCRLF, 26 carries the whole length.
 #[test]
 fn sections_joined() {
     for (sections, body, len) in [
