@@ -1,5 +1,5 @@
 # `make` proves everything and prints what is proved of the whole; `make show` is a first look; `make test` is the gate.
-.PHONY: prove show test proofs examples programs compare bench format library gateway notice rt cc cargo
+.PHONY: prove show test proofs examples programs compare bench bench-reading format library gateway notice rt cc cargo
 
 # What fails left of a pipe fails.
 SHELL := bash
@@ -81,11 +81,16 @@ notice: cargo cc library
 	@$(LOCKED) cc -std=c99 -Wall -Wextra -Wpedantic -Werror -Icrates/cpim examples/notice.c target/staticlib/libcpim.a -o target/notice
 	@target/notice | cmp - examples/notice.out
 
-# What the leaves and the gateway's crate cost, as ratios (docs/BENCHMARKS.md).
+# What the leaves and the gateway's crate cost, as ratios: writes the tables of docs/BENCHMARKS.md. Nothing else should run beside it.
 bench: cargo library
 	@cargo run --release $(RUST) --bin bench
 	@cargo run --release $(RUST) --bin workloads
 	@cargo run --release $(RUST) --bin memory
+	@cargo run --release $(RUST) --bin reading -- store
+
+# What reading a body of 10 MB costs, as ratios: prints the tables and fails where one is above 2. No part of the gate: a timed test fails by chance.
+bench-reading: cargo library
+	@cargo run --release $(RUST) --bin reading
 
 # What the build scripts make libraries of: they prove without a word, this says each crate that was not proved yet.
 library: rt

@@ -7,6 +7,7 @@ use beside::refusals::{number, Refusal};
 use beside::sections::{CRLFCRLF, LFLF};
 use beside::store::Store;
 use cpim::raw::{self, Answer, BodyPlace, HeadAnswer, Record};
+use cpim::CpimError;
 use source::cpim::{parse_cpim, CpimMessage};
 
 /// Three sections that both readings read alike, each with LFLF behind it. Of three LF in a row the first two are the separator, so a body may begin
@@ -70,6 +71,7 @@ impl Case {
 
     /// Every call, with each of these lengths for the body store and the buffer.
     fn check(&self, rooms: impl IntoIterator<Item = usize>) {
+        self.read_by_the_crate();
         self.read_head();
         for room in rooms {
             self.read(room);
@@ -90,6 +92,21 @@ impl Case {
             }
             assert_eq!(body.differences(room), None, "the body store, {with}");
             self.head_holds(head, due.number, &with);
+        }
+    }
+
+    /// `parse_cpim` and `parse_cpim_rfc` of the gateway's crate, which makes its own stores.
+    fn read_by_the_crate(&self) {
+        let due = self.due(usize::MAX);
+        for parse in [cpim::parse_cpim, cpim::parse_cpim_rfc] {
+            let with = format!("by the gateway's crate, {}", shown(&self.text));
+            match parse(&self.text) {
+                Ok(m) => assert!(due.number == 0 && m.body() == self.body.as_bytes(), "{with}"),
+                Err(CpimError::BodyTooLarge { actual, .. }) => {
+                    assert_eq!((due.number, due.carried), (23, actual as u64), "{with}");
+                }
+                Err(other) => panic!("{other}, {with}"),
+            }
         }
     }
 
@@ -219,5 +236,26 @@ fn lflf_in_a_crlf_body() {
     for body in ["a\n\nb", "\n\n", "\n\n\n", "a\n\nb\r\n\r\nc\n\n", "\r\n\r\n\n\n"] {
         let case = Case::new(START.replace('\n', "\r\n") + body, body.to_string(), true);
         case.check(0..=body.len() + 1);
+    }
+}
+
+/// The gateway's crate looks for the end of the first section in the first 1,024 bytes, to go the faster way. What is read does not depend on it.
+#[test]
+fn the_first_section_of_any_length() {
+    let (first, others) = START.split_once(LFLF).expect("a first section");
+    for len in [0, 1, 900, 1_000, 3_000].into_iter().chain(1_020 - first.len()..1_030 - first.len()) {
+        for line_end in ["\n", "\r\n"] {
+            let longer = [first, line_end, &"a".repeat(len)].concat();
+            for body in ["", "a\n\nb", "\n\n\n\n\n"] {
+                let case = Case::joined(&[longer.as_str(), LFLF, others].concat(), body);
+                let len = case.body.len();
+                case.check([len, len + 1, len.saturating_sub(1)]);
+            }
+        }
+        // CRLFCRLF behind LFLF, which is then a part of the first section.
+        for first in [[first, LFLF, &"a".repeat(len)].concat(), [first, "\r\n", &"a".repeat(len)].concat()] {
+            let start = [first.as_str(), CRLFCRLF, &others.replace('\n', "\r\n")].concat();
+            Case::new(start + "a\n\nb", "a\n\nb".to_string(), true).check(3..=5);
+        }
     }
 }

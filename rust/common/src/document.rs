@@ -12,13 +12,18 @@ pub fn load() -> String {
     load.split(' ').next().unwrap_or_default().to_string()
 }
 
-/// Prints tables in Markdown, and puts them where the document has those of this name. The load is that before they were measured.
-pub fn store(name: &str, tables: &str, before: &str) {
+/// Tables in Markdown, and behind them how busy the machine was before they were measured and is now.
+pub fn with_load(tables: &str, before: &str) -> String {
     let cores = available_parallelism().map_or(1, usize::from);
-    let tables = format!(
+    format!(
         "{tables}\nThe load of the machine's {cores} cores was {before} before this was measured, and {} behind it.\n",
         load()
-    );
+    )
+}
+
+/// Prints tables in Markdown, and puts them where the document has those of this name. The load is that before they were measured.
+pub fn store(name: &str, tables: &str, before: &str) {
+    let tables = with_load(tables, before);
     println!("{tables}");
     let begin = format!("<!-- {name}: written by `make bench` -->\n");
     let text = fs::read_to_string(FILE).expect("docs/BENCHMARKS.md");

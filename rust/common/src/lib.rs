@@ -3,15 +3,17 @@
 mod anew;
 mod clock;
 mod document;
+mod machine;
 pub mod measure;
 mod random;
 mod value;
 mod words;
 mod work;
 
-pub use anew::{is_one_run, run, runs, told};
-pub use clock::{clock, median};
-pub use document::{load, range, store};
+pub use anew::{is_one_run, run, runs, runs_where, told};
+pub use clock::median;
+pub use document::{load, range, store, with_load};
+pub use machine::machine;
 pub use random::Random;
 pub use value::{has_white_end, is_plain_white, value_text, WHITE_SPACE};
 pub use words::words;

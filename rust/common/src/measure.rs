@@ -1,56 +1,75 @@
-//! Two sides measured in turn, by the time that this thread has run: what other programs take of the machine does not count.
+//! Sides measured in turn.
 
-use crate::{clock, median};
+use crate::clock::{median, Start, Time};
 use std::hint::black_box;
 
 const MEASUREMENTS: usize = 21;
-/// How long a measurement takes at least, in nanoseconds, so that the reading of the clock does not count.
+/// How long a measurement takes at least, in nanoseconds, so that the reading of the clocks does not count.
 const LONG: f64 = 300_000.0;
 
-/// One side: the inputs, all of them called `times` times a measurement, and the room to write to.
-struct Side<'a, T, F> {
-    inputs: &'a [T],
-    room: &'a mut [u8],
-    call: F,
-    times: usize,
-    measured: Vec<f64>,
+/// What makes one measurement of so many calls, and gives what one of them took.
+pub type Side<'a> = Box<dyn FnMut(usize) -> Time + 'a>;
+
+/// Calls after `ready`, which is not measured. What they give is kept until the clocks were read, so that freeing it is not measured either.
+pub fn side<'a, S: 'a, T>(mut state: S, ready: impl Fn(&mut S) + 'a, call: impl Fn(&mut S) -> T + 'a) -> Side<'a> {
+    Box::new(move |times| {
+        ready(&mut state);
+        let mut kept = Vec::with_capacity(times);
+        let start = Start::now();
+        for _ in 0..times {
+            kept.push(black_box(call(black_box(&mut state))));
+        }
+        start.each(times)
+    })
 }
 
-impl<T, F: Fn(&T, &mut [u8]) -> usize> Side<'_, T, F> {
-    /// What one call takes, in nanoseconds.
-    fn measure(&mut self) -> f64 {
-        let start = clock();
-        for _ in 0..self.times {
-            for input in self.inputs {
-                black_box((self.call)(black_box(input), black_box(&mut *self.room)));
+/// Calls of which each drops what it gives before the next, so that freeing is measured too. The first one is not measured: it leaves the
+/// allocator as this side does, and not as the other one.
+pub fn dropping<'a, T>(call: impl Fn() -> T + 'a) -> Side<'a> {
+    Box::new(move |times| {
+        drop(black_box(call()));
+        let start = Start::now();
+        for _ in 0..times {
+            drop(black_box(call()));
+        }
+        start.each(times)
+    })
+}
+
+/// Calls on inputs, with room to write to: what is measured is one round, a call on each of them.
+pub fn rounds<'a, T>(inputs: &'a [T], room: &'a mut [u8], call: impl Fn(&T, &mut [u8]) -> usize + 'a) -> Side<'a> {
+    Box::new(move |times| {
+        let start = Start::now();
+        for _ in 0..times {
+            for input in inputs {
+                black_box(call(black_box(input), black_box(&mut *room)));
             }
         }
-        (clock() - start) / (self.times * self.inputs.len()) as f64
-    }
-
-    /// Learns how many calls make a measurement; the first are to warm up.
-    fn warm_up(&mut self) {
-        for _ in 0..3 {
-            self.times = (LONG / (self.measure() * self.inputs.len() as f64)).ceil() as usize;
-        }
-    }
+        start.each(times)
+    })
 }
 
-/// What one call of each side takes, in nanoseconds: medians of 21 measurements, in turn.
-pub fn both<T>(
-    inputs: &[T],
-    [here, there]: &mut [Vec<u8>; 2],
-    ours: impl Fn(&T, &mut [u8]) -> usize,
-    theirs: impl Fn(&T, &mut [u8]) -> usize,
-) -> (f64, f64) {
-    let mut a = Side { inputs, room: here, call: ours, times: 1, measured: Vec::new() };
-    let mut b = Side { inputs, room: there, call: theirs, times: 1, measured: Vec::new() };
-    a.warm_up();
-    b.warm_up();
+/// What one call of a side takes: the medians of its measurements, each of so many calls.
+pub struct Measured {
+    pub calls: usize,
+    pub time: Time,
+}
+
+/// 21 measurements of each side, in turn. The first three are to warm up, and to learn how many calls a measurement needs.
+pub fn in_turn<const N: usize>(mut sides: [Side<'_>; N]) -> [Measured; N] {
+    let calls: Vec<usize> = sides
+        .iter_mut()
+        .map(|side| (0..3).fold(1, |calls, _| (LONG / side(calls).thread).ceil().clamp(1.0, 100_000.0) as usize))
+        .collect();
+    let mut measured = vec![Vec::new(); N];
     for _ in 0..MEASUREMENTS {
-        let (x, y) = (a.measure(), b.measure());
-        a.measured.push(x);
-        b.measured.push(y);
+        for ((side, calls), all) in sides.iter_mut().zip(&calls).zip(&mut measured) {
+            all.push(side(*calls));
+        }
     }
-    (median(&mut a.measured), median(&mut b.measured))
+    let middle = |all: &[Time], of: fn(&Time) -> f64| median(&mut all.iter().map(of).collect::<Vec<f64>>());
+    std::array::from_fn(|k| {
+        let all = &measured[k];
+        Measured { calls: calls[k], time: Time { thread: middle(all, |t| t.thread), wall: middle(all, |t| t.wall) } }
+    })
 }

@@ -2,13 +2,13 @@
 
 use crate::error::{CpimError, Refusal, MAX_BODY_SIZE, MAX_PARSE_SIZE};
 use crate::message::{CpimMessage, MOST_HEAD};
-use crate::raw::{joined_body, Reading};
+use crate::raw::Reading;
 use std::mem::MaybeUninit;
 
 /// The head store that is lent first, on the stack: more than all but a few messages need.
 const FIRST: usize = 24_576;
-/// How far the first line end is looked for.
-const FIRST_LINE: usize = 64;
+/// How far the end of the first section is looked for.
+const FIRST_SECTION: usize = 1_024;
 
 /// Parses a CPIM message from a string.
 pub fn parse_cpim(input: &str) -> Result<CpimMessage, CpimError> {
@@ -77,32 +77,48 @@ fn read_again(text: &[u8], needed: u64, reading: Reading) -> Result<CpimMessage,
 
 /// A text in a head store. A body under CRLFCRLF is copied from the text; one under LFLF is written by the reading.
 fn read(text: &[u8], head: &mut [MaybeUninit<u8>], reading: Reading) -> Result<CpimMessage, Refusal> {
-    if begins_with_lf_line(text) {
-        return read_joined(text, head, reading);
+    if begins_with_lf_section(text) {
+        // Each blank line becomes two bytes longer: this is room for one in each eight bytes. A text that is too long is refused before it is
+        // looked at.
+        let room = if text.len() > MAX_PARSE_SIZE { 0 } else { MAX_BODY_SIZE.min(text.len() + text.len() / 4) };
+        return read_joined(text, head, reading, room);
     }
-    let (answer, head) = reading.parse_head_into(text, head);
+    let (answer, laid) = reading.parse_head_into(text, head);
     let record = answer.accepted()?.record;
-    let body = answer.body_in(text).map_or_else(|| joined_body(text, record.bodylen), <[u8]>::to_vec);
-    Ok(CpimMessage::of(record, head.to_vec(), body))
+    match answer.body_in(text) {
+        Some(body) => Ok(CpimMessage::of(record, laid.to_vec(), body.to_vec())),
+        None => read_joined(text, head, reading, record.bodylen),
+    }
 }
 
-/// Whether the first line end is a bare LF. That only says which way is the faster one.
-fn begins_with_lf_line(text: &[u8]) -> bool {
-    let end = text.iter().take(FIRST_LINE).position(|b| *b == b'\n');
-    end.is_some_and(|end| end == 0 || text[end - 1] != b'\r')
+/// Whether the first section ends in LFLF, as far as its first bytes show. That only says which way is the faster one.
+fn begins_with_lf_section(text: &[u8]) -> bool {
+    let start = &text[..text.len().min(FIRST_SECTION)];
+    let line_ends = start.iter().enumerate().filter(|(_, b)| **b == b'\n').map(|(k, _)| text.split_at(k + 1));
+    for (before, behind) in line_ends {
+        if behind.starts_with(b"\n") {
+            return true;
+        }
+        if before.ends_with(b"\r\n") && behind.starts_with(b"\r\n") {
+            return false;
+        }
+    }
+    false
 }
 
-/// With a body store, so that the text is judged once.
-fn read_joined(text: &[u8], head: &mut [MaybeUninit<u8>], reading: Reading) -> Result<CpimMessage, Refusal> {
-    // Each blank line becomes two bytes longer: this is room for one in each 32 bytes. Where there are more, 26 says what is needed. A text that
-    // is too long is refused before it is looked at.
-    let mut room = if text.len() > MAX_PARSE_SIZE { 0 } else { MAX_BODY_SIZE.min(text.len() + text.len() / 16) };
+/// With a body store of so many bytes, so that the text is judged once. Where that is too short, 26 says what is needed.
+fn read_joined(
+    text: &[u8],
+    head: &mut [MaybeUninit<u8>],
+    reading: Reading,
+    mut room: usize,
+) -> Result<CpimMessage, Refusal> {
     loop {
-        let (answer, head, mut body) = reading.parse_into(text, head, room);
+        let (answer, laid, mut body) = reading.parse_into(text, head, room);
         match answer.accepted() {
             Ok(record) => {
                 body.shrink_to_fit();
-                return Ok(CpimMessage::of(record, head.to_vec(), body));
+                return Ok(CpimMessage::of(record, laid.to_vec(), body));
             }
             Err(Refusal { number: 26, carried }) if carried as usize > room => room = carried as usize,
             Err(refusal) => return Err(refusal),

@@ -1,13 +1,13 @@
 //! What else a gateway does with the crate, beside the source: the same lines for both sides.
 
-use crate::measure::{in_turn, side, Side};
 use crate::tables::GATEWAY;
 use ::workloads::inputs::NOTICE;
+use ::workloads::rows;
+use common::measure::{in_turn, side, Side};
 use source::cpim as source;
 
 fn row(what: &str, sides: [Side<'_>; 2]) {
-    let [here, there] = in_turn(sides);
-    println!("{GATEWAY}\t{what}\tinf\t{here}\t{there}");
+    rows::print(GATEWAY, what, f64::INFINITY, &in_turn(sides).map(|measured| measured.time.thread));
 }
 
 fn nothing<S>(_: &mut S) {}

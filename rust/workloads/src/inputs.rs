@@ -3,6 +3,8 @@
 use common::Random;
 
 pub const LARGE: usize = 10_485_760;
+/// The lengths of a body by which it shows how a cost grows.
+pub const SIZES: [usize; 5] = [1_024, 10_240, 102_400, 1_048_576, LARGE];
 
 const ASCII: &str = "the and a of to in is on it was black umbrella with wooden handle left under seat line seven harbour counter depot found this \
     morning brown suitcase no label grey coat size forty two keys ring red ribbon please call before five";
@@ -41,26 +43,39 @@ fn prose(random: &mut Random, script: Script, n: usize) -> String {
     text
 }
 
-/// A body that has `n` bytes once it is read, and a blank line every 76 of them.
-fn body(script: Script, line_end: &str, n: usize) -> String {
+/// How many bytes a blank line takes once it is read: CRLFCRLF, also where the text has LFLF.
+const BLANK: usize = 4;
+
+/// A body that has `n` bytes once it is read: a blank line behind each `line` bytes.
+pub fn blank_lines(script: Script, line_end: &str, line: usize, n: usize) -> String {
     let mut random = Random::new(n as u64);
     let mut text = String::with_capacity(n);
-    for from in (0..n).step_by(76) {
-        let len = (n - from).min(76);
-        if len < 76 {
+    for from in (0..n).step_by(line + BLANK) {
+        let len = n - from;
+        if len < line + BLANK {
             text.push_str(&prose(&mut random, script, len));
         } else {
-            text.push_str(&prose(&mut random, script, 72));
+            text.push_str(&prose(&mut random, script, line));
             text.push_str(&line_end.repeat(2));
         }
     }
     text
 }
 
+/// A body that has `n` bytes once it is read, and a blank line every 76 of them.
+fn body(script: Script, line_end: &str, n: usize) -> String {
+    blank_lines(script, line_end, 76 - BLANK, n)
+}
+
 /// A text with such a body.
 pub fn text(script: Script, line_end: &str, n: usize) -> String {
-    let sections = ["Content-type: Message/CPIM", "From: <im:east@depots.example>", "Content-type: text/plain", ""];
-    sections.join(&line_end.repeat(2)) + &body(script, line_end, n)
+    with_body(line_end, &body(script, line_end, n))
+}
+
+/// A text with one header and this body.
+pub fn with_body(line_end: &str, body: &str) -> String {
+    let sections = ["Content-type: Message/CPIM", "From: <im:east@depots.example>", "Content-type: text/plain", body];
+    sections.join(&line_end.repeat(2))
 }
 
 /// A notice of 379 bytes with five headers.

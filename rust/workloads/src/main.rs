@@ -2,12 +2,9 @@
 //! tables and stores them in docs/BENCHMARKS.md.
 
 mod gateway;
-mod measure;
 mod parsing;
 mod tables;
 mod workloads;
-
-const RUNS: usize = 3;
 
 fn main() {
     if common::is_one_run() {
@@ -20,7 +17,7 @@ fn main() {
         };
     }
     let before = common::load();
-    common::store("notices", &tables::notices(&common::runs(RUNS, &[])), &before);
-    let by_length = parsing::LENGTHS.map(|n| common::runs(RUNS, &[&n.to_string()]));
+    common::store("notices", &tables::notices(&common::runs(&[])), &before);
+    let by_length = parsing::LENGTHS.map(|n| common::runs(&[&n.to_string()]));
     common::store("parsing", &tables::parsing(&by_length.concat()), &before);
 }

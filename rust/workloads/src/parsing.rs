@@ -1,9 +1,10 @@
 //! `parse_cpim` of the gateway's crate beside the source, by the length of the text. Each line has the table, what is read with the
 //! length behind it, the goal, and what one call takes by the crate and by the source.
 
-use crate::measure::{dropping, in_turn, side, Side};
 use crate::tables::PARSING;
 use ::workloads::inputs::{filled, notice, text, with_line, Script, LARGE, NOTICE};
+use ::workloads::rows;
+use common::measure::{dropping, in_turn, side, Side};
 use cpim::lent::Message;
 use source::cpim as source;
 use std::hint::black_box;
@@ -45,8 +46,8 @@ impl Texts {
     }
 
     fn beside(&self, what: &str, goal: f64, text: &str, here: Side<'_>) {
-        let [here, there] = in_turn([here, dropping(|| source::parse_cpim(black_box(text)))]);
-        println!("{PARSING}\t{what} {}\t{goal}\t{here}\t{there}", self.length);
+        let measured = in_turn([here, dropping(|| source::parse_cpim(black_box(text)))]);
+        rows::print(PARSING, &format!("{what} {}", self.length), goal, &measured.map(|measured| measured.time.thread));
     }
 
     fn notices(&self) {

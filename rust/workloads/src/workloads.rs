@@ -1,79 +1,17 @@
 //! The workloads. Each prints a line: its table, what it is, its goal, and what one call takes in nanoseconds by the lent stores, by the
 //! gateway's crate and by the source.
 
-use crate::measure::{in_turn, side, Side};
 use crate::tables;
-use ::workloads::inputs::{many, text, Many, Script, LARGE, NOTICE};
-use cpim::raw::{self, Answer, Record};
-use cpim::{CpimError, CpimMessage};
+use ::workloads::inputs::{many, text, Many, Script, LARGE, NOTICE, SIZES};
+use ::workloads::lent::{Lent, Reading, FIRST, SECOND};
+use ::workloads::rows;
+use common::measure::{in_turn, side, Side};
+use cpim::raw;
 use source::cpim as source;
 
-/// The head store's bytes that are lent: as many as any message needs.
-const HEAD: usize = 250_016;
-const SIZES: [usize; 5] = [1_024, 10_240, 102_400, 1_048_576, LARGE];
-
 fn row(what: &str, goal: f64, sides: [Side<'_>; 3]) {
-    let [lent, crated, there] = in_turn(sides);
     let table = if goal.is_finite() { tables::GOALS } else { tables::SIZES };
-    println!("{table}\t{what}\t{goal}\t{lent}\t{crated}\t{there}");
-}
-
-/// Reads a text into a head store and a body store.
-type Parse = fn(&[u8], &mut [u8], &mut [u8]) -> Answer<Record>;
-
-/// A reading by the lent stores and by the gateway's crate.
-struct Reading {
-    lent: Parse,
-    crated: fn(&str) -> Result<CpimMessage, CpimError>,
-}
-
-/// The source's, and the second one.
-const FIRST: Reading = Reading { lent: raw::parse, crated: cpim::parse_cpim };
-const SECOND: Reading = Reading { lent: raw::parse_rfc, crated: cpim::parse_cpim_rfc };
-
-/// Lent stores, and what they hold.
-struct Lent {
-    head: Vec<u8>,
-    body: Vec<u8>,
-    out: Vec<u8>,
-    record: Record,
-}
-
-impl Lent {
-    fn new(head: usize, body: usize, out: usize) -> Self {
-        Lent { head: vec![1; head], body: vec![1; body], out: vec![1; out], record: Record::default() }
-    }
-
-    /// Stores that hold what a text has, with room for its text.
-    fn holding(text: &str) -> Self {
-        let mut lent = Lent::new(HEAD, text.len(), text.len() + 4_096);
-        lent.read(&FIRST, text);
-        lent
-    }
-
-    fn clear(&mut self) {
-        self.head.fill(0);
-        self.body.fill(0);
-        self.out.fill(0);
-    }
-
-    fn read(&mut self, reading: &Reading, text: &str) -> u64 {
-        let answer = (reading.lent)(text.as_bytes(), &mut self.head, &mut self.body);
-        assert_eq!((answer.number, answer.carried), (0, 0));
-        self.record = answer.record;
-        answer.number
-    }
-
-    fn write(&mut self) -> u64 {
-        let answer = raw::to_string(self.record, &self.head, &self.body, &mut self.out);
-        assert_eq!(answer.number, 0);
-        answer.number
-    }
-}
-
-/// As much head store as a short text asks for, so that clearing it does not drive the rest from the caches.
-fn head_for(text: &str) -> usize {
-    HEAD.min(256 + 6 * text.len())
+    rows::print(table, what, goal, &in_turn(sides).map(|measured| measured.time.thread));
 }
 
 fn reading(what: &str, goal: f64, text: &str, body: usize) {
@@ -86,7 +24,7 @@ fn reading_by(reading: &Reading, what: &str, goal: f64, text: &str, body: usize)
         what,
         goal,
         [
-            side(Lent::new(head_for(text), body, 0), Lent::clear, |lent| lent.read(reading, text)),
+            side(Lent::for_text(text, body), Lent::clear, |lent| lent.read(reading, text)),
             side((), |_| {}, |_| (reading.crated)(text).expect(what)),
             side((), |_| {}, |_| source::parse_cpim(text).expect(what)),
         ],
@@ -151,7 +89,7 @@ fn building(what: &str, goal: f64, many: &Many) {
 
 fn lookup(what: &str, goal: f64, text: &str, name: &str) {
     let (crated, there) = (cpim::parse_cpim(text).expect(what), source::parse_cpim(text).expect(what));
-    let mut lent = Lent::new(head_for(text), text.len(), 0);
+    let mut lent = Lent::for_text(text, text.len());
     lent.read(&FIRST, text);
     row(
         what,
@@ -184,7 +122,6 @@ pub fn all() {
     lookup("(i) a lookup in the notice", 1.0, NOTICE, "Subject");
     reading_by(&SECOND, "(j) the second reading of the notice of 379 bytes", 0.5, NOTICE, 256);
     for n in SIZES {
-        reading(&format!("reading, CRLF, {n}"), f64::INFINITY, &text(Script::Ascii, "\r\n", n), n);
-        writing(&format!("writing, CRLF, {n}"), f64::INFINITY, &text(Script::Ascii, "\r\n", n));
+        writing(&n.to_string(), f64::INFINITY, &text(Script::Ascii, "\r\n", n));
     }
 }

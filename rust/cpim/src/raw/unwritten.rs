@@ -4,7 +4,7 @@
 //! crates/format/specs/Lending.antt, of which `laid` speaks of all the bytes that are needed, the zeros behind the type among them. A function that
 //! did not write them could not keep that for every store that it may be lent.
 
-use super::{cpim_read_body, cpim_to_string, Answer, HeadAnswer, Reading, Record};
+use super::{cpim_to_string, Answer, HeadAnswer, Reading, Record};
 use std::mem::MaybeUninit;
 
 impl Reading {
@@ -46,17 +46,6 @@ unsafe fn written(store: &[MaybeUninit<u8>], len: usize) -> &[u8] {
     let written = &store[..len];
     // SAFETY: as the caller says.
     unsafe { std::slice::from_raw_parts(written.as_ptr().cast(), len) }
-}
-
-/// The body of a text under LFLF, by the length that [`parse_head`](super::parse_head) gave.
-pub(crate) fn joined_body(text: &[u8], len: usize) -> Vec<u8> {
-    let mut body = Vec::with_capacity(len);
-    // SAFETY: as in raw.rs.
-    let answer = unsafe { cpim_read_body(text.as_ptr(), text.len(), body.as_mut_ptr(), len) };
-    assert_eq!((answer.number, answer.record), (0, len), "the body of a text that was read");
-    // SAFETY: there is room for `len` bytes, and the body is `len` bytes long and was written (`bufferAfter` in crates/format/specs/LookingUp.antt).
-    unsafe { body.set_len(len) };
-    body
 }
 
 /// [`to_string`](super::to_string) with room for so many bytes; the text where it has that room.

@@ -8,8 +8,6 @@ mod texts;
 use rows::{Rows, NAMES, SIZES};
 use std::fmt::Write;
 
-const RUNS: usize = 3;
-
 /// A row of a table: for each size the nanoseconds of a call, here and there, of each run.
 struct Row {
     table: String,
@@ -49,7 +47,7 @@ fn main() {
     }
     let before = common::load();
     let mut rows = Vec::new();
-    for line in common::runs(RUNS, &[]) {
+    for line in common::runs(&[]) {
         add(&mut rows, &line).expect(&line);
     }
     let (mut out, mut table) = (String::new(), "");

@@ -1,7 +1,7 @@
 //! What is measured.
 
 use crate::texts::*;
-use common::measure::both;
+use common::measure::{in_turn, rounds};
 use leaves::*;
 use source::cpim::{open_escape_header_value, open_unescape_header_value};
 use std::str::from_utf8;
@@ -37,7 +37,9 @@ impl Rows {
             if inputs.is_empty() {
                 continue;
             }
-            let (here, there) = both(&inputs, &mut self.rooms, &ours, &theirs);
+            let [a, b] = &mut self.rooms;
+            let [here, there] = in_turn([rounds(&inputs, a, &ours), rounds(&inputs, b, &theirs)])
+                .map(|round| round.time.thread / inputs.len() as f64);
             println!("{table}\t{what}\t{}\t{size}\t{here}\t{there}", goal.unwrap_or(f64::MAX));
         }
     }

@@ -1,13 +1,14 @@
 //! What messages take that a gateway keeps, beside the source: the bytes asked of the allocator, and those by which the process grows.
 //! Each side of each row is a process of its own. Prints the table and stores it in docs/BENCHMARKS.md.
 
-mod counted;
-
-use counted::asked;
 use source::cpim as source;
 use std::fmt::Write;
 use std::fs;
+use workloads::counted::{Counted, Counts};
 use workloads::inputs::{notice, plain_notice};
+
+#[global_allocator]
+static ALLOCATOR: Counted = Counted;
 
 /// Messages kept: what they are, how many, and how one is made. The same lines for both sides.
 struct Kept {
@@ -83,10 +84,10 @@ fn taken<M>(kept: &Kept, make: fn(&str) -> M) -> [usize; 2] {
     let mut messages = Vec::with_capacity(kept.count);
     // Read and dropped once, so that what a program takes once does not count.
     drop(make(&text));
-    let before = [asked(), resident()];
+    let before = [Counts::now().kept(), resident()];
     // The vector's own pages are taken as it fills: its part of each message is the message itself, and was asked for before.
     messages.extend((0..kept.count).map(|_| make(&text)));
-    let after = [asked(), resident()];
+    let after = [Counts::now().kept(), resident()];
     let own = [size_of::<M>(), 0];
     std::array::from_fn(|k| (after[k] - before[k]) / messages.len() + own[k])
 }
