@@ -20,7 +20,7 @@ const KEEPING: [(&str, &str); 2] = [("MALLOC_MMAP_THRESHOLD_", "1073741824"), ("
 fn one_run(told: &[String]) {
     let text = |k: &str| &TEXTS[k.parse::<usize>().expect("a number")];
     match told.iter().map(String::as_str).collect::<Vec<_>>()[..] {
-        ["pairs", k] => sides::pairs(text(k), k == "0"),
+        ["pairs", k] => sides::pairs(text(k)),
         ["three", k] => sides::three(text(k)),
         ["sizes"] => sides::sizes(),
         ["limits"] => sides::limits(),
@@ -29,7 +29,7 @@ fn one_run(told: &[String]) {
     }
 }
 
-/// The runs of all texts, or of the request's.
+/// The runs of the texts in some tables, three of each.
 fn of_texts(word: &str, variables: &[(&str, &str)], chosen: impl Fn(Table) -> bool) -> Vec<String> {
     let texts = TEXTS.iter().enumerate().filter(|(_, text)| chosen(text.table));
     texts.flat_map(|(k, _)| common::runs_where(variables, &[word, &k.to_string()])).collect()

@@ -1,6 +1,7 @@
 //! The tables, in Markdown.
 
-use crate::sides::{BODIES, LF_BODIES, LIMIT, LIMITS, MEMORY, PAIRS, REQUEST, SIZES};
+use crate::sides::{BODIES, LF_BODIES, LIMITS, MEMORY, PAIRS, REQUEST, SIZES};
+use crate::texts::LIMIT;
 use common::{grouped, machine};
 use std::fmt::Write;
 use workloads::rows::{rows, Row};

@@ -1,6 +1,6 @@
 //! Readings beside the source's.
 
-use crate::texts::{Table, Text};
+use crate::texts::{Table, Text, LIMIT};
 use common::measure::{in_turn, side, Measured, Side};
 use cpim::raw;
 use source::cpim as source;
@@ -18,11 +18,7 @@ pub const SIZES: &str = "sizes";
 pub const LIMITS: &str = "limits";
 pub const MEMORY: &str = "memory";
 
-/// T-14's limit, and T-05's goal, which is for lent stores.
-pub const LIMIT: f64 = 2.0;
-const JOINED: f64 = 0.28;
-
-/// What the calls are called.
+/// The calls, as the tables name them.
 const LENT: &str = "`cpim_parse`, lent stores";
 const CRATE: &str = "`parse_cpim`, the gateway's crate";
 const LENT_RFC: &str = "`cpim_parse_rfc`, lent stores";
@@ -49,15 +45,15 @@ fn line<const N: usize>(table: &str, what: &str, goal: f64, sides: [Side<'_>; N]
     rows::print(table, what, goal, &figures.map(|figure| sides.each_ref().map(figure)).concat());
 }
 
-/// The request's measure of one of its texts: a call and the source in turn, and nothing beside them. The second reading differs in header lines
-/// alone, so that one text shows it.
-pub fn pairs(text: &Text, first: bool) {
-    let (what, goal, text) = (text.what, if text.what.starts_with("LF") { JOINED } else { LIMIT }, text.text());
+/// The request's measure of one of its texts: a call and the source in turn, and nothing beside them.
+pub fn pairs(text: &Text) {
+    let Text { what, goal, second, .. } = *text;
+    let text = text.text();
     assert_same(&text, LARGE);
     let pair = |call: &str, goal, here| line(PAIRS, &format!("{what} | {call}"), goal, [here, there(&text)]);
     pair(LENT, goal, lent(&FIRST, &text, LARGE));
     pair(CRATE, LIMIT, crated(&FIRST, &text));
-    if first {
+    if second {
         pair(LENT_RFC, LIMIT, lent(&SECOND, &text, LARGE));
         pair(CRATE_RFC, LIMIT, crated(&SECOND, &text));
     }
