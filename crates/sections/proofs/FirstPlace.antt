@@ -6,7 +6,7 @@ use mathlib.Core.List.{[], _∷_}
 use mathlib.Core.Logic.{⊎-elim}
 use native.Mathlib.Omega.{arith}
 use native.Mathlib.Numerals.{add-one}
-use lib.ListN.{length, take, drop, getD}
+use lib.ListN.{length, take, drop, getD, length-drop}
 use lib.Seq.{drop-cons}
 use Rattle.format.specs.Bytes.{Bytes, begins, splitFrom}
 use Rattle.format.proofs.Lists.{bcase}
@@ -33,6 +33,12 @@ pub place-short : (p t : Bytes) → length t < length p → place p t ≡ length
 unfolding splitFrom
 place-short p [] h = refl
 place-short p (b ∷ t) h = place-step p b t (begins-short p (b ∷ t) h) ∙ ap suc (place-short p t (omega arith))
+
+-- none begins at the first n places, and none fits behind them
+pub place-end : (n : ℕ) (p t : Bytes) → n ≤ length t → length t < n + length p → place p t ≡ n + place p (drop n t) → place p t ≡ length t
+place-end n p t l h e =
+    let rest = length-drop n t in
+    omega (arith, place-short p (drop n t) (omega arith))
 
 from-le : (k : ℕ) (p t : Bytes) → length ((splitFrom k p t) .first) ≤ length t
 unfolding splitFrom

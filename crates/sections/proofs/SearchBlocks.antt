@@ -1,5 +1,5 @@
 -- A block of places: the least difference is 0 exactly where a pair stands, and a block without the pattern's first and
--- last byte at their distance is passed over. Assumes nothing.
+-- last byte at their distance is passed over, and so is a place without four of its bytes. Assumes nothing.
 use Prim.Native.Nat.{ℕ, zero, suc, _+_, _-_, _≤_, _<_}
 use mathlib.Core.Path.{_≡_, refl, sym, _∙_}
 use mathlib.Core.Bool.{Bool, true, false, _&&_, _||_}
@@ -10,15 +10,15 @@ use native.Mathlib.Numerals.{add-one}
 use lib.Bits.{bitOr, bitXor, and-le-l, and-le-r, or-add-and, xor-add-and, xor-self}
 use lib.Dec.{eqb}
 use lib.ListN.{length, take, drop, getD, length-drop}
-use lib.Seq.{drop-cons, drop-drop}
+use lib.Seq.{drop-cons, drop-drop, getD-drop}
 use borrow.Author.Tests.{eqb-false, eq-eqb, ne-eqb}
 use Rattle.format.specs.Bytes.{Bytes, begins}
-use Rattle.format.proofs.Lists.{bcase, clash}
+use Rattle.format.proofs.Lists.{bcase, clash, rest-is}
 use Rattle.format.proofs.Rulesets.{tests}
 use Rattle.sections.specs.Block.{near}
 use Rattle.sections.specs.Place.{place}
 use Rattle.sections.proofs.Begins.{begins-byte}
-use Rattle.sections.proofs.FirstPlace.{place-step, place-short, part-none}
+use Rattle.sections.proofs.FirstPlace.{place-step, place-next, place-end, part-none}
 
 -- 0 exactly where x is a and y is z
 abbrev pub apart : ℕ → ℕ → ℕ → ℕ → ℕ
@@ -97,6 +97,31 @@ block-clear (suc n) m p (b ∷ t) l f h =
     let other = apart-begins m p (b ∷ t) l (both .0) in
     omega (arith, place-step p b t other, block-clear n m p t l (omega arith) (both .1))
 
+-- a byte of the pattern that stands at the place k
+byte-at : (p s : Bytes) (k m : ℕ) → begins p (drop k s) ≡ true → m < length p → getD (drop m s) k 0 ≡ getD p m 0
+byte-at p s k m h l =
+    let turned : m + k ≡ k + m = omega arith in
+    getD-drop m s k 0 ∙ rw turned (sym (getD-drop k s m 0)) ∙ begins-byte p (drop k s) m h l
+
+-- 0 where the pattern's bytes 0, 1, m and n stand, counted from the place k of s
+abbrev pub apart-4 : Bytes → Bytes → ℕ → ℕ → ℕ → ℕ
+apart-4 p s m n k =
+    let from : ℕ → Bytes = λ j. take (length s - j) (drop j s) in
+    bitOr (apart (getD s k 0) (getD p 0 0) (getD (from 1) k 0) (getD p 1 0)) (apart (getD (from m) k 0) (getD p m 0) (getD (from n) k 0) (getD p n 0))
+
+-- a place at which they do not all stand is passed over
+pub apart-next : (p s : Bytes) (m n k : ℕ) → 1 < length p → m < length p → n < length p → k < length s → 0 < apart-4 p s m n k
+    → place p (drop k s) ≡ place p (drop (k + 1) s) + 1
+apart-next p s m n k l hm hn h d = place-next p s k h (⊎-elim found (λ f. f) (bcase (begins p (drop k s))))
+  where
+    found : begins p (drop k s) ≡ true → begins p (drop k s) ≡ false
+    found b =
+        let byte : (j : ℕ) → j < length p → getD (drop j s) k 0 ≡ getD p j 0 = λ j i. byte-at p s k j b i in
+        let first = apart-same (getD s k 0) (getD p 0 0) (getD (drop 1 s) k 0) (getD p 1 0) (byte 0 (omega arith)) (byte 1 l) in
+        let last = apart-same (getD (drop m s) k 0) (getD p m 0) (getD (drop n s) k 0) (getD p n 0) (byte m hm) (byte n hn) in
+        let none : apart-4 p s m n k ≡ 0 = rw (rest-is s 1, rest-is s m, rest-is s n, first, last) refl in
+        absurd (omega arith)
+
 -- A block with w + 1 places for the pattern.
 module _ (w : ℕ) where
   -- the pattern does not stand in it where no pair stands at these places
@@ -106,8 +131,7 @@ module _ (w : ℕ) where
   block-none p s l k h =
       let m = length p - 1 in
       let n : length s - m ≡ w + 1 = omega arith in
-      let rest = length-drop (w + 1) s in
-      omega (arith, block-clear (w + 1) m p s (omega arith) (omega arith) (rw n at h), place-short p (drop (w + 1) s) (omega arith))
+      place-end (w + 1) p s (omega arith) (omega arith) (block-clear (w + 1) m p s (omega arith) (omega arith) (rw n at h))
 
   -- it begins at none of them from the place at on: the search goes on behind them
   pub block-past : (p t : Bytes) (at : ℕ) → 0 < length p → at + (length p + w) ≤ length t

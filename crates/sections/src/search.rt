@@ -1,6 +1,7 @@
 // Document 01, "Reading": the search for a pattern. "The search leaves all its loops at the first match": `find_plain`.
 // `find` is the same by blocks, for long texts.
 
+ghost use mathlib.Core.Bool.{true};
 ghost use mathlib.Core.Path.{_≡_};
 ghost use Prim.Native.Nat.{_<_, _≤_, _+_};
 ghost use lib.ListN.{length};
@@ -63,11 +64,46 @@ fn find_in_16(block: &[u8], pattern: &[u8]) -> usize
     block.len()
 }
 
-// `find_plain`, by blocks of 16 places.
+// Whether the pattern's first two bytes and its last two stand together at none of a block's 64 places. Then the pattern does not
+// stand in the block; where the answer is no it may, and does if it has no more than these bytes, but only the yes is proved. No
+// early exit, as in `near_in`.
+fn rules_out(block: &[u8], pattern: &[u8]) -> bool
+    requires { ⌜ (2 < length (now pattern)) × (length (now block) ≡ length (now pattern) + 63) ⌝ }
+    ensures { λ r. ⌜ (r ≡ true → place (now (pattern .entry)) (now (block .entry)) ≡ length (now (block .entry))) ⌝ }
+{
+    let far = pattern.len() - 1;
+    let late = far - 1;
+    let second = &block[1..];
+    let third = &block[late..];
+    let last = &block[far..];
+    let mut low: u8 = 255;
+    let mut k: usize = 0;
+    while k < 64 {
+        let ahead = (block[k] ^ pattern[0]) | (second[k] ^ pattern[1]);
+        let behind = (third[k] ^ pattern[late]) | (last[k] ^ pattern[far]);
+        let differ = ahead | behind;
+        if differ < low {
+            low = differ;
+        }
+        k += 1;
+    }
+    0 < low
+}
+
+// `find_plain`, by blocks of 16 places. A text with 64 places is a block of `find` in which `near_in` saw a pair: it is passed
+// over where `rules_out` says so. That is asked here and not in `find_in_64`, since `find` has to stay small enough to be inlined
+// for the pattern of each caller; of `&text[..]` and not of `text`, so that the text is still handed over in registers.
 fn find_by_16(text: &[u8], pattern: &[u8]) -> usize
     requires { ⌜ 0 < length (now pattern) ⌝ }
     ensures { λ r. ⌜ r ≡ place (now (pattern .entry)) (now (text .entry)) ⌝ }
 {
+    if text.len() == pattern.len() + 63 {
+        if 2 < pattern.len() {
+            if rules_out(&text[..], pattern) {
+                return text.len();
+            }
+        }
+    }
     let span = pattern.len() + 15;
     let mut at: usize = 0;
     while span <= text.len() - at {

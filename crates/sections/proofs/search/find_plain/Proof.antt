@@ -2,18 +2,18 @@
 -- against what is left of the text decides (`begins-same`, `begins-differs`), and a place that fails is one step of `place`
 -- (`place-next`). The invariants: the text's place is this place and that of what is left; the pattern begins here exactly where
 -- its rest begins `k` bytes on. Assumes nothing.
-use mathlib.Core.Path.{_≡_, refl, _∙_}
+use mathlib.Core.Path.{_≡_, refl, sym, _∙_}
 use mathlib.Core.Bool.{true, false}
 use Prim.Native.Nat.{_+_, _-_, _≤_}
 use native.Mathlib.Nat.{add-zero}
 use native.Mathlib.Omega.{arith}
-use lib.ListN.{length, drop, length-drop}
+use lib.ListN.{length, drop}
 use borrow.Author.Needs.{needs}
 use Rattle.format.specs.Bytes.{begins}
 use Rattle.format.proofs.Typed.{the}
 use Rattle.sections.specs.Place.{place}
 use Rattle.sections.proofs.Begins.{begins-same, begins-differs, begins-done}
-use Rattle.sections.proofs.FirstPlace.{place-here, place-next, place-short}
+use Rattle.sections.proofs.FirstPlace.{place-here, place-next, place-end}
 use Rattle.sections.proofs.search.find_plain.Statement.{statement}
 use Rattle.sections.proofs.search.find_plain.Tie as tie
 
@@ -64,7 +64,7 @@ returns c =
     let text = the (tie.Start Inv-loop μ-loop Inv-places μ-places) (search) .args .text .now in
     let pattern = the (tie.Start Inv-loop μ-loop Inv-places μ-places) (search) .args .pattern .now in
     let at = the (tie.At-places Inv-loop μ-loop Inv-places μ-places) (search) .places .place in
-    omega (arith, place-short pattern (drop at text) (simp length-drop (omega arith)), length-drop at text)
+    sym (place-end at pattern text (omega arith) (omega arith) (the (tie.At-places Inv-loop μ-loop Inv-places μ-places) (search) .places .inv .1))
 
 returns-2 : tie.Need-returns-2 Inv-loop μ-loop Inv-places μ-places
 returns-2 c =
