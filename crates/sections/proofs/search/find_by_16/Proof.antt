@@ -1,6 +1,5 @@
 -- `sections::search::find_by_16` meets its contract: where a block has the pattern at one of its 16 places the text has it there (`part-found`), else the
--- block is passed over (`block-past`). A text that `rules_out` rules out has it nowhere. The invariant: the text's place is that of what is left, so
--- many bytes on. Assumes nothing.
+-- block is passed over (`block-past`). The invariant: the text's place is that of what is left, so many bytes on. Assumes nothing.
 use mathlib.Core.Path.{_≡_, sym, ap, _∙_}
 use Prim.Native.Nat.{_+_, _-_, _≤_}
 use native.Mathlib.Omega.{arith}
@@ -20,17 +19,11 @@ Inv-loop text pattern span at₀ at = (at ≤ length text) × (place pattern tex
 abbrev μ-loop : tie.MeasureT-loop
 μ-loop text pattern span at₀ at = length text - at
 
-rules-out-requires : tie.Need-rules-out-requires Inv-loop μ-loop
-rules-out-requires c κs = search needs
-
-returns : tie.Need-returns Inv-loop μ-loop
-returns c = sym (the (tie.After-rules-out Inv-loop μ-loop) (search) .rules-out .ensures (c .if3 .taken))
-
 loop-holds : tie.Need-loop-holds Inv-loop μ-loop
 loop-holds c = (omega arith, omega arith)
 
-returns-2 : tie.Need-returns-2 Inv-loop μ-loop
-returns-2 c =
+returns : tie.Need-returns Inv-loop μ-loop
+returns c =
     let text = the (tie.Start Inv-loop μ-loop) (search) .args .text .now in
     let pattern = the (tie.Start Inv-loop μ-loop) (search) .args .pattern .now in
     let at = the (tie.At-loop Inv-loop μ-loop) (search) .loop .at in
@@ -49,8 +42,8 @@ add-result-2 c =
     let at = the (tie.At-loop Inv-loop μ-loop) (search) .loop .at in
     record { fits = omega (arith, ap (place pattern) (rest-is text at), place-le pattern (drop at text), length-drop at text) }
 
-returns-3 : tie.Need-returns-3 Inv-loop μ-loop
-returns-3 c =
+returns-2 : tie.Need-returns-2 Inv-loop μ-loop
+returns-2 c =
     let text = the (tie.Start Inv-loop μ-loop) (search) .args .text .now in
     let pattern = the (tie.Start Inv-loop μ-loop) (search) .args .pattern .now in
     omega (arith, ap (place pattern) (rest-is text (the (tie.At-loop Inv-loop μ-loop) (search) .loop .at)))
@@ -58,6 +51,6 @@ returns-3 c =
 pub find-by-16-spec : {M : Type 1} → statement M
 find-by-16-spec =
     tie.close
-    (tie.spec Inv-loop μ-loop (λ c. search needs) rules-out-requires returns (λ c. search needs) loop-holds (λ c. search needs) (λ c. search needs)
-    (λ c. search needs) (λ c. search needs) (λ c. search needs) (λ c κs. search needs) (λ c. search needs) returns-2 (λ c. search needs) (λ c. search needs)
-    loop-again (λ c. search needs) (λ c. search needs) (λ c. search needs) (λ c κs. search needs) add-result-2 returns-3)
+    (tie.spec Inv-loop μ-loop (λ c. search needs) loop-holds (λ c. search needs) (λ c. search needs) (λ c. search needs) (λ c. search needs)
+    (λ c. search needs) (λ c κs. search needs) (λ c. search needs) returns (λ c. search needs) (λ c. search needs) loop-again (λ c. search needs)
+    (λ c. search needs) (λ c. search needs) (λ c κs. search needs) add-result-2 returns-2)

@@ -1,4 +1,4 @@
--- `sections::search::find_in_16` meets its contract: without a pair the pattern stands nowhere in the block (`block-none`). Assumes nothing.
+-- `sections::search::find_in_16` meets its contract: without a pair the pattern stands nowhere in the block (`block-none`), and where it is ruled out neither. Assumes nothing.
 use mathlib.Core.Path.{_≡_, sym, _∙_}
 use native.Mathlib.Omega.{arith}
 use lib.ListN.{length, take}
@@ -19,11 +19,17 @@ slice-aggregate-near-in c = sym (front (search))
 near-in-requires : tie.Need-near-in-requires
 near-in-requires c κs = omega (arith, front (search))
 
+rules-out-requires : tie.Need-rules-out-requires
+rules-out-requires c κs = search needs
+
 returns : tie.Need-returns
-returns c = search needs
+returns c = sym (the tie.After-rules-out (search) .rules-out .ensures (c .if3 .taken))
 
 returns-2 : tie.Need-returns-2
-returns-2 c =
+returns-2 c = search needs
+
+returns-3 : tie.Need-returns-3
+returns-3 c =
     let args = the tie.Start (search) .args in
     sym (block-none 15 (args .pattern .now) (args .block .now) (omega arith) (omega arith) (sym (the tie.After-near-in (search) .near-in .ensures) ∙ c .if1 .left))
 
@@ -31,4 +37,4 @@ pub find-in-16-spec : {M : Type 1} → statement M
 find-in-16-spec =
     tie.close
     (tie.spec (λ c. search needs) slice-aggregate-near-in (λ c. search needs) (λ c. search needs) (λ c. search needs) (λ c. search needs)
-    (λ c. search needs) near-in-requires (λ c κs. search needs) returns returns-2)
+    (λ c. search needs) near-in-requires rules-out-requires returns (λ c κs. search needs) returns-2 returns-3)

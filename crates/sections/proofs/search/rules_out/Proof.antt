@@ -1,5 +1,5 @@
 -- `sections::search::rules_out` meets its contract. The invariant: while the least difference so far is above 0 the pattern stands at no place that was
--- passed (`apart-next`). Behind the 64 places it does not fit (`place-end`). Assumes nothing.
+-- passed (`apart-next`). Behind the 16 places it does not fit (`place-end`). Assumes nothing.
 use mathlib.Core.Path.{_≡_}
 use mathlib.Core.Logic.{⊎-elim}
 use Prim.Native.Nat.{_+_, _-_, _≤_, _<_}
@@ -15,10 +15,10 @@ use Rattle.sections.proofs.search.rules_out.Statement.{statement}
 use Rattle.sections.proofs.search.rules_out.Tie as tie
 
 abbrev Inv-loop : tie.InvT-loop
-Inv-loop block pattern far late second third last low₀ k₀ low k = (k ≤ 64) × (0 < low → place pattern block ≡ k + place pattern (drop k block))
+Inv-loop block pattern far late second third last low₀ k₀ low k = (k ≤ 16) × (0 < low → place pattern block ≡ k + place pattern (drop k block))
 
 abbrev μ-loop : tie.MeasureT-loop
-μ-loop block pattern far late second third last low₀ k₀ low k = 64 - k
+μ-loop block pattern far late second third last low₀ k₀ low k = 16 - k
 
 loop-holds : tie.Need-loop-holds Inv-loop μ-loop
 loop-holds c = (omega arith, λ l. omega arith)
