@@ -239,11 +239,11 @@ fn lflf_in_a_crlf_body() {
     }
 }
 
-/// The gateway's crate looks for the end of the first section in the first 1,024 bytes, to go the faster way. What is read does not depend on it.
+/// The gateway's crate looks for the end of the first section in the first 128 bytes, to go the faster way. What is read does not depend on it.
 #[test]
 fn the_first_section_of_any_length() {
     let (first, others) = START.split_once(LFLF).expect("a first section");
-    for len in [0, 1, 900, 1_000, 3_000].into_iter().chain(1_020 - first.len()..1_030 - first.len()) {
+    for len in [0, 1, 64, 1_000].into_iter().chain(120 - first.len()..132 - first.len()) {
         for line_end in ["\n", "\r\n"] {
             let longer = [first, line_end, &"a".repeat(len)].concat();
             for body in ["", "a\n\nb", "\n\n\n\n\n"] {

@@ -8,7 +8,7 @@ use std::mem::MaybeUninit;
 /// The head store that is lent first, on the stack: more than all but a few messages need.
 const FIRST: usize = 24_576;
 /// How far the end of the first section is looked for.
-const FIRST_SECTION: usize = 1_024;
+const FIRST_SECTION: usize = 128;
 
 /// Parses a CPIM message from a string.
 pub fn parse_cpim(input: &str) -> Result<CpimMessage, CpimError> {
