@@ -55,7 +55,7 @@ fn near_in(text: &[u8], behind: &[u8], first: u8, last: u8) -> bool
 // stand in the block; where the answer is no it may, and does if it has no more than these bytes, but only the yes is proved. No
 // early exit, as in `near_in`.
 fn rules_out(block: &[u8], pattern: &[u8]) -> bool
-    requires { ⌜ (2 < length (now pattern)) × (length (now block) ≡ length (now pattern) + 15) ⌝ }
+    requires { ⌜ (1 < length (now pattern)) × (length (now block) ≡ length (now pattern) + 15) ⌝ }
     ensures { λ r. ⌜ (r ≡ true → place (now (pattern .entry)) (now (block .entry)) ≡ length (now (block .entry))) ⌝ }
 {
     let far = pattern.len() - 1;
@@ -78,8 +78,8 @@ fn rules_out(block: &[u8], pattern: &[u8]) -> bool
 }
 
 // `find_plain`, for a block with 16 places for the pattern. One in which the pattern's first byte nowhere has its last byte
-// at the pattern's distance behind it is passed over, and so is one that is ruled out: near_in alone lets every block through in a text with
-// CR ab LF in each 16 bytes.
+// at the pattern's distance behind it is passed over. A pattern of more than two bytes is asked for those next to these as well:
+// in a text with CR ab LF in each 16 bytes every block has the two.
 fn find_in_16(block: &[u8], pattern: &[u8]) -> usize
     requires { ⌜ (0 < length (now pattern)) × (length (now block) ≡ length (now pattern) + 15) ⌝ }
     ensures { λ r. ⌜ r ≡ place (now (pattern .entry)) (now (block .entry)) ⌝ }

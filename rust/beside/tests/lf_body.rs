@@ -101,7 +101,12 @@ impl Case {
         for parse in [cpim::parse_cpim, cpim::parse_cpim_rfc] {
             let with = format!("by the gateway's crate, {}", shown(&self.text));
             match parse(&self.text) {
-                Ok(m) => assert!(due.number == 0 && m.body() == self.body.as_bytes(), "{with}"),
+                Ok(m) => {
+                    let there = self.source.as_ref().expect(&with);
+                    assert!(m.body() == self.body.as_bytes(), "{with}");
+                    assert_eq!(m.content_type(), there.content_type(), "{with}");
+                    assert_eq!(m.to_string().expect(&with), there.to_string().expect(&with), "{with}");
+                }
                 Err(CpimError::BodyTooLarge { actual, .. }) => {
                     assert_eq!((due.number, due.carried), (23, actual as u64), "{with}");
                 }
@@ -239,7 +244,7 @@ fn lflf_in_a_crlf_body() {
     }
 }
 
-/// The gateway's crate looks for the end of the first section in the first 128 bytes, to go the faster way. What is read does not depend on it.
+/// The gateway's crate goes by the line ends in the first 128 bytes, to take the faster way. What is read does not depend on it.
 #[test]
 fn the_first_section_of_any_length() {
     let (first, others) = START.split_once(LFLF).expect("a first section");

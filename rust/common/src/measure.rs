@@ -55,7 +55,7 @@ pub struct Measured {
     pub time: Time,
 }
 
-/// 21 measurements of each side, in turn. The first three are to warm up, and to learn how many calls a measurement needs.
+/// 21 measurements of each side, in turn. Three before them are to warm up, and to learn how many calls a measurement needs.
 pub fn in_turn<const N: usize>(mut sides: [Side<'_>; N]) -> [Measured; N] {
     let calls: Vec<usize> = sides
         .iter_mut()

@@ -7,8 +7,8 @@ use std::mem::MaybeUninit;
 
 /// The head store that is lent first, on the stack: more than all but a few messages need.
 const FIRST: usize = 24_576;
-/// How far the end of the first section is looked for.
-const FIRST_SECTION: usize = 128;
+/// How many of a text's first bytes say which way it is read.
+const LOOKED_AT: usize = 128;
 
 /// Parses a CPIM message from a string.
 pub fn parse_cpim(input: &str) -> Result<CpimMessage, CpimError> {
@@ -66,7 +66,7 @@ fn parse(input: &str, reading: Reading) -> Result<CpimMessage, CpimError> {
 fn read_again(text: &[u8], needed: u64, reading: Reading) -> Result<CpimMessage, Refusal> {
     let (mut len, mut needed) = (FIRST, needed);
     loop {
-        // Each time the text is read from its start. Four times the length makes that three readings at most.
+        // Each time the text is read from its start. Four times the length makes that three head stores at most.
         len = (4 * len).max(needed as usize).min(MOST_HEAD);
         match read(text, &mut Vec::with_capacity(len).spare_capacity_mut()[..len], reading) {
             Err(Refusal { number: 25, carried }) if len < MOST_HEAD => needed = carried,
@@ -77,10 +77,9 @@ fn read_again(text: &[u8], needed: u64, reading: Reading) -> Result<CpimMessage,
 
 /// A text in a head store. A body under CRLFCRLF is copied from the text; one under LFLF is written by the reading.
 fn read(text: &[u8], head: &mut [MaybeUninit<u8>], reading: Reading) -> Result<CpimMessage, Refusal> {
-    if begins_with_lf_section(text) {
-        // Each blank line becomes two bytes longer: this is room for one in each eight bytes. A text that is too long is refused before it is
-        // looked at.
-        let room = if text.len() > MAX_PARSE_SIZE { 0 } else { MAX_BODY_SIZE.min(text.len() + text.len() / 4) };
+    if begins_with_lf(text) {
+        // LFLF becomes CRLFCRLF, so no body is longer than twice its text. A text that is too long is refused before it is looked at.
+        let room = if text.len() > MAX_PARSE_SIZE { 0 } else { MAX_BODY_SIZE.min(2 * text.len()) };
         return read_joined(text, head, reading, room);
     }
     let (answer, laid) = reading.parse_head_into(text, head);
@@ -91,37 +90,31 @@ fn read(text: &[u8], head: &mut [MaybeUninit<u8>], reading: Reading) -> Result<C
     }
 }
 
-/// Whether the first section ends in LFLF, as far as its first bytes show. That only says which way is the faster one.
-fn begins_with_lf_section(text: &[u8]) -> bool {
-    let start = &text[..text.len().min(FIRST_SECTION)];
+/// Whether a line ends in a bare LF, or a section in LFLF, before one ends in CRLFCRLF, as far as the first bytes show. That only says which way
+/// is the faster one.
+fn begins_with_lf(text: &[u8]) -> bool {
+    let start = &text[..text.len().min(LOOKED_AT)];
     let line_ends = start.iter().enumerate().filter(|(_, b)| **b == b'\n').map(|(k, _)| text.split_at(k + 1));
     for (before, behind) in line_ends {
-        if behind.starts_with(b"\n") {
+        if !before.ends_with(b"\r\n") || behind.starts_with(b"\n") {
             return true;
         }
-        if before.ends_with(b"\r\n") && behind.starts_with(b"\r\n") {
+        if behind.starts_with(b"\r\n") {
             return false;
         }
     }
     false
 }
 
-/// With a body store of so many bytes, so that the text is judged once. Where that is too short, 26 says what is needed.
+/// With a body store that has room for the body, or for the longest one, so that the text is judged once.
 fn read_joined(
     text: &[u8],
     head: &mut [MaybeUninit<u8>],
     reading: Reading,
-    mut room: usize,
+    room: usize,
 ) -> Result<CpimMessage, Refusal> {
-    loop {
-        let (answer, laid, mut body) = reading.parse_into(text, head, room);
-        match answer.accepted() {
-            Ok(record) => {
-                body.shrink_to_fit();
-                return Ok(CpimMessage::of(record, laid.to_vec(), body));
-            }
-            Err(Refusal { number: 26, carried }) if carried as usize > room => room = carried as usize,
-            Err(refusal) => return Err(refusal),
-        }
-    }
+    let (answer, laid, mut body) = reading.parse_into(text, head, room);
+    let record = answer.accepted()?;
+    body.shrink_to_fit();
+    Ok(CpimMessage::of(record, laid.to_vec(), body))
 }

@@ -21,17 +21,22 @@ pub enum Script {
     Greek,
 }
 
+impl Script {
+    fn words(self) -> Vec<&'static str> {
+        let words = match self {
+            Script::Ascii => ASCII,
+            Script::German => GERMAN,
+            Script::Greek => GREEK,
+        };
+        words.split_whitespace().collect()
+    }
+}
+
 /// `n` bytes of words by chance.
-fn prose(random: &mut Random, script: Script, n: usize) -> String {
-    let words = match script {
-        Script::Ascii => ASCII,
-        Script::German => GERMAN,
-        Script::Greek => GREEK,
-    };
-    let words: Vec<&str> = words.split_whitespace().collect();
+fn prose(random: &mut Random, words: &[&str], n: usize) -> String {
     let mut text = String::with_capacity(n + 32);
     while text.len() < n {
-        text.push_str(random.pick(&words));
+        text.push_str(random.pick(words));
         text.push(' ');
     }
     let mut end = n;
@@ -48,14 +53,14 @@ const BLANK: usize = 4;
 
 /// A body that has `n` bytes once it is read: a blank line behind each `line` bytes.
 pub fn blank_lines(script: Script, line_end: &str, line: usize, n: usize) -> String {
-    let mut random = Random::new(n as u64);
+    let (mut random, words) = (Random::new(n as u64), script.words());
     let mut text = String::with_capacity(n);
     for from in (0..n).step_by(line + BLANK) {
         let len = n - from;
         if len < line + BLANK {
-            text.push_str(&prose(&mut random, script, len));
+            text.push_str(&prose(&mut random, &words, len));
         } else {
-            text.push_str(&prose(&mut random, script, line));
+            text.push_str(&prose(&mut random, &words, line));
             text.push_str(&line_end.repeat(2));
         }
     }
@@ -74,8 +79,12 @@ pub fn text(script: Script, line_end: &str, n: usize) -> String {
 
 /// A text with one header and this body.
 pub fn with_body(line_end: &str, body: &str) -> String {
-    let sections = ["Content-type: Message/CPIM", "From: <im:east@depots.example>", "Content-type: text/plain", body];
-    sections.join(&line_end.repeat(2))
+    behind("Content-type: Message/CPIM", line_end, body)
+}
+
+/// The same behind a first section.
+pub fn behind(first: &str, line_end: &str, body: &str) -> String {
+    [first, "From: <im:east@depots.example>", "Content-type: text/plain", body].join(&line_end.repeat(2))
 }
 
 /// A notice of 379 bytes with five headers.
@@ -99,11 +108,15 @@ pub fn plain_notice() -> String {
     less + " B"
 }
 
+/// `n` bytes of ASCII words by chance, without a line end.
+pub fn words(n: usize) -> String {
+    prose(&mut Random::new(n as u64), &Script::Ascii.words(), n)
+}
+
 /// A notice of `n` bytes: its body has a blank line every 76 of them, or none.
 pub fn notice(n: usize, blank_lines: bool) -> String {
     let n = n - BEFORE;
-    let body =
-        if blank_lines { body(Script::Ascii, "\r\n", n) } else { prose(&mut Random::new(n as u64), Script::Ascii, n) };
+    let body = if blank_lines { body(Script::Ascii, "\r\n", n) } else { words(n) };
     NOTICE[..BEFORE].to_string() + &body
 }
 
@@ -120,10 +133,10 @@ pub fn with_line(notice: &str, section: usize, line: &str) -> String {
 pub fn filled(n: usize, headers: usize) -> String {
     let ends = ["Content-type: Message/CPIM\r\n\r\n", "\r\nContent-type: text/plain\r\n\r\n"];
     let room = n - ends[0].len() - ends[1].len();
-    let mut random = Random::new(n as u64);
+    let (mut random, words) = (Random::new(n as u64), Script::Ascii.words());
     let value = (room / headers - "Header-00: \r\n".len()).min(1_024);
     let lines: String =
-        (0..headers).map(|k| format!("Header-{k:02}: {}\r\n", prose(&mut random, Script::Ascii, value))).collect();
+        (0..headers).map(|k| format!("Header-{k:02}: {}\r\n", prose(&mut random, &words, value))).collect();
     let text = [ends[0], &lines, ends[1]].concat();
     let rest = n - text.len();
     text + &body(Script::Ascii, "\r\n", rest)

@@ -14,7 +14,7 @@ use workloads::counted::Counted;
 #[global_allocator]
 static ALLOCATOR: Counted = Counted;
 
-/// The system's allocator keeps what it got and has it at hand. As it is, it gives a long piece back at once, and asks for the next one anew.
+/// The system's allocator keeps what it got and has it at hand. As it is, that depends on what was freed before.
 const KEEPING: [(&str, &str); 2] = [("MALLOC_MMAP_THRESHOLD_", "1073741824"), ("MALLOC_TRIM_THRESHOLD_", "1073741824")];
 
 fn one_run(told: &[String]) {
@@ -39,6 +39,14 @@ fn main() {
     if common::is_one_run() {
         return one_run(&common::told());
     }
+    let store = match &env::args().skip(1).collect::<Vec<_>>()[..] {
+        [] => false,
+        [word] if word == "store" => true,
+        words => {
+            eprintln!("reading: {words:?} is no word of it; `store` puts the tables into docs/BENCHMARKS.md");
+            exit(2);
+        }
+    };
     let before = common::load();
     let report = Report::of(&[
         of_texts("pairs", &[], |table| table == Table::Request),
@@ -48,7 +56,7 @@ fn main() {
         common::run(&["memory"]),
     ]);
     let tables = report.tables();
-    if env::args().nth(1).as_deref() == Some("store") {
+    if store {
         common::store("reading", &tables, &before);
     } else {
         println!("{}", common::with_load(&tables, &before));

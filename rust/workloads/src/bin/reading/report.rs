@@ -41,11 +41,11 @@ impl Report {
     /// A call beside the source, by both clocks.
     fn pairs(&self, out: &mut String) {
         let columns =
-            "at most | ratio, thread | ratio, wall | here, source, thread | here, source, wall | readings a run";
+            "goal | ratio, thread | ratio, wall | here, source, thread, ms | here, source, wall, ms | readings a run";
         write!(out, "\n| body | read by | {columns} |\n|---|---|---|---|---|---|---|---|\n").unwrap();
         for row in self.table(PAIRS) {
             let [thread, wall] = [THREAD, WALL].map(|part| range(row, part, 0));
-            let [by_thread, by_wall] = [THREAD, WALL].map(|part| times(row, part));
+            let [by_thread, by_wall] = [THREAD, WALL].map(|clock| milliseconds(row, clock));
             let what = &row.what;
             writeln!(
                 out,
@@ -64,7 +64,7 @@ impl Report {
         write!(out, "\n| {title} | {columns} |\n|---|---|---|---|---|---|\n").unwrap();
         for row in self.table(table) {
             let ratios = [(THREAD, 0), (WALL, 0), (THREAD, 1), (WALL, 1)].map(|(part, side)| range(row, part, side));
-            writeln!(out, "| {} | {} | {} |", row.what, ratios.join(" | "), times(row, THREAD)).unwrap();
+            writeln!(out, "| {} | {} | {} |", row.what, ratios.join(" | "), milliseconds(row, THREAD)).unwrap();
         }
     }
 
@@ -83,7 +83,7 @@ impl Report {
     fn limits(&self, out: &mut String) {
         out.push_str("\n| at the limits | answer here | here, source, thread |\n|---|---|---|\n");
         for row in self.table(LIMITS) {
-            writeln!(out, "| {} | {} |", row.what, times(row, THREAD)).unwrap();
+            writeln!(out, "| {} | {} |", row.what, row.times(&[0, 1])).unwrap();
         }
     }
 
@@ -125,19 +125,23 @@ fn part(run: &[f64], part: usize) -> &[f64] {
     &run[part * sides..][..sides]
 }
 
-/// The ratios of a side to the source, one of each run.
-fn ratios(row: &Row, clock: usize, side: usize) -> impl Iterator<Item = f64> + '_ {
-    row.runs.iter().map(move |run| part(run, clock)).map(move |sides| sides[side] / sides[sides.len() - 1])
+/// Where a line has a side's figure, and where the source's.
+fn places(row: &Row, clock: usize, side: usize) -> (usize, usize) {
+    let sides = row.runs[0].len() / 3;
+    (clock * sides + side, clock * sides + sides - 1)
 }
 
 fn range(row: &Row, clock: usize, side: usize) -> String {
-    common::range(ratios(row, clock, side), row.goal)
+    let (here, there) = places(row, clock, side);
+    row.range(here, there)
 }
 
-/// The middle time of each side.
-fn times(row: &Row, clock: usize) -> String {
-    let sides = row.runs[0].len() / 3;
-    row.times(&(clock * sides..(clock + 1) * sides).collect::<Vec<usize>>())
+/// The middle time of each side, in milliseconds.
+fn milliseconds(row: &Row, clock: usize) -> String {
+    let sides = 0..part(&row.runs[0], clock).len();
+    let times: Vec<String> =
+        sides.map(|side| format!("{:.2}", row.median(|run| part(run, clock)[side]) / 1e6)).collect();
+    times.join(", ")
 }
 
 /// How many readings a run of each side is.
@@ -149,8 +153,8 @@ fn readings(row: &Row) -> String {
 /// The highest ratio of a row, by either clock.
 fn highest(row: &Row) -> f64 {
     let sides = row.runs[0].len() / 3 - 1;
-    let all = [THREAD, WALL].into_iter().flat_map(|clock| (0..sides).map(move |side| (clock, side)));
-    all.flat_map(|(clock, side)| ratios(row, clock, side)).fold(0.0, f64::max)
+    let all = [THREAD, WALL].into_iter().flat_map(|clock| (0..sides).map(move |side| places(row, clock, side)));
+    all.flat_map(|(here, there)| row.ratios(here, there)).fold(0.0, f64::max)
 }
 
 /// What a row is, in words.

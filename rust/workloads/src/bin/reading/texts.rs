@@ -2,7 +2,13 @@
 
 use common::Random;
 use std::ops::RangeInclusive;
-use workloads::inputs::{blank_lines, with_body, Script, LARGE};
+use workloads::inputs::{behind, blank_lines, words, Script, LARGE};
+
+/// The first section of all texts but one, and that of this one, 148 bytes.
+const SHORT: &str = "Content-type: Message/CPIM";
+const FOUR_LINES: &str =
+    "MIME-Version: 1.0\nContent-Type: Message/CPIM; charset=utf-8\nContent-Transfer-Encoding: 8bit\nContent-ID: \
+    <found-20260314-0815@depots.example>";
 
 const CRLF: &str = "\r\n";
 const LF: &str = "\n";
@@ -22,10 +28,11 @@ pub enum Table {
 pub const LIMIT: f64 = 2.0;
 const JOINED: f64 = 0.28;
 
-/// A text: its table, what its body is and how that is made.
+/// A text: its table, what its body is and how that is made, and what stands before it.
 pub struct Text {
     pub table: Table,
     pub what: &'static str,
+    first: &'static str,
     line_end: &'static str,
     body: fn() -> String,
     /// The goal of reading it in lent stores.
@@ -36,12 +43,12 @@ pub struct Text {
 
 impl Text {
     pub fn text(&self) -> String {
-        with_body(self.line_end, &(self.body)())
+        behind(self.first, self.line_end, &(self.body)())
     }
 }
 
 const fn crlf(table: Table, what: &'static str, body: fn() -> String) -> Text {
-    Text { table, what, line_end: CRLF, body, goal: LIMIT, second: false }
+    Text { table, what, first: SHORT, line_end: CRLF, body, goal: LIMIT, second: false }
 }
 
 const fn lf(table: Table, what: &'static str, body: fn() -> String) -> Text {
@@ -50,7 +57,7 @@ const fn lf(table: Table, what: &'static str, body: fn() -> String) -> Text {
 
 use Table::{Bodies, LfBodies, Request};
 
-pub const TEXTS: [Text; 17] = [
+pub const TEXTS: [Text; 19] = [
     Text {
         second: true,
         ..crlf(Request, "CRLF, 72 bytes and CRLFCRLF", || blank_lines(Script::Ascii, CRLF, 72, LARGE))
@@ -68,8 +75,13 @@ pub const TEXTS: [Text; 17] = [
     crlf(Bodies, "characters of one to four bytes", || characters(&[ONE, TWO, THREE, FOUR])),
     lf(LfBodies, "CR ab LF in each 64 bytes", || marked(64, words(LARGE))),
     lf(LfBodies, "CR ab LF, then four characters of three bytes", || repeated("\rab\n€€€€", LARGE)),
-    lf(LfBodies, "14 bytes and LFLF", || joined("fourteen bytes", LARGE)),
-    lf(LfBodies, "CR ab LF, three characters of three bytes, a letter and LFLF", || joined("\rab\n€€€a", LARGE)),
+    lf(LfBodies, "15 bytes and LFLF", || joined("fifteen letters", LARGE)),
+    Text {
+        first: FOUR_LINES,
+        ..lf(LfBodies, "the same behind a first section of four lines", || joined("fifteen letters", LARGE))
+    },
+    lf(LfBodies, "CR ab LF, three characters of three bytes, two letters and LFLF", || joined("\rab\n€€€ab", LARGE)),
+    lf(LfBodies, "a character of three bytes, two letters and LFLF", || joined("€ab", LARGE)),
     lf(LfBodies, "LFLF alone", || joined("", LARGE)),
 ];
 
@@ -90,11 +102,6 @@ fn characters(ranges: &[RangeInclusive<u32>]) -> String {
     }
     let rest = LARGE - text.len();
     text + &"x".repeat(rest)
-}
-
-/// `n` bytes of words by chance.
-fn words(n: usize) -> String {
-    blank_lines(Script::Ascii, CRLF, n, n)
 }
 
 /// A piece over and over, `x` where no further one has room.
