@@ -78,8 +78,8 @@ fn read_again(text: &[u8], needed: u64, reading: Reading) -> Result<CpimMessage,
 /// A text in a head store. A body under CRLFCRLF is copied from the text; one under LFLF is written by the reading.
 fn read(text: &[u8], head: &mut [MaybeUninit<u8>], reading: Reading) -> Result<CpimMessage, Refusal> {
     if begins_with_lf(text) {
-        // LFLF becomes CRLFCRLF, so no body is longer than twice its text. A text that is too long is refused before it is looked at.
-        let room = if text.len() > MAX_PARSE_SIZE { 0 } else { MAX_BODY_SIZE.min(2 * text.len()) };
+        // A text that is too long is refused before it is looked at.
+        let room = if text.len() > MAX_PARSE_SIZE { 0 } else { MAX_BODY_SIZE.min(longest_body(text)) };
         return read_joined(text, head, reading, room);
     }
     let (answer, laid) = reading.parse_head_into(text, head);
@@ -104,6 +104,18 @@ fn begins_with_lf(text: &[u8]) -> bool {
         }
     }
     false
+}
+
+/// As many bytes as the body of a text has at most: each LFLF becomes CRLFCRLF, two bytes longer. Three LF in a row are counted as two LFLF.
+fn longest_body(text: &[u8]) -> usize {
+    // So many pairs at a time that they are counted in a byte, 16 side by side.
+    const PAIRS: usize = 240;
+    let behind = text.get(1..).unwrap_or_default();
+    let counted = text.chunks(PAIRS).zip(behind.chunks(PAIRS)).map(|(a, b)| {
+        let blank = a.iter().zip(b).map(|(a, b)| u8::from(*a == b'\n') & u8::from(*b == b'\n'));
+        usize::from(blank.sum::<u8>())
+    });
+    text.len() + 2 * counted.sum::<usize>()
 }
 
 /// With a body store that has room for the body, or for the longest one, so that the text is judged once.
