@@ -60,7 +60,7 @@ impl Report {
     /// Lent stores and the gateway's crate beside the source, by both clocks.
     fn three(&self, out: &mut String, table: &str, title: &str) {
         let columns =
-            "lent stores, thread | wall | gateway's crate, thread | wall | lent stores, crate, source, thread";
+            "lent stores, thread | wall | gateway's crate, thread | wall | lent stores, crate, source, thread, ms";
         write!(out, "\n| {title} | {columns} |\n|---|---|---|---|---|---|\n").unwrap();
         for row in self.table(table) {
             let ratios = [(THREAD, 0), (WALL, 0), (THREAD, 1), (WALL, 1)].map(|(part, side)| range(row, part, side));
