@@ -159,5 +159,8 @@ fn highest(row: &Row) -> f64 {
 
 /// What a row is, in words.
 fn named(row: &Row) -> String {
+    if row.table == SIZES {
+        return format!("a body of {} bytes", row.what);
+    }
     row.what.replace(" | ", "; ")
 }
