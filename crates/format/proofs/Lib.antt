@@ -13,4 +13,5 @@ pub mod Begun
 pub mod Exact
 pub mod Demand3
 pub mod SecondReading
+pub mod Addresses
 pub mod Computing

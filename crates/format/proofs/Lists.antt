@@ -8,7 +8,7 @@ use native.Mathlib.Omega.{arith}
 use lib.Dec.{ltb, eqb}
 use lib.ListN.{length, take, drop, getD, length-append, length-drop}
 use lib.Seq.{take-all}
-use borrow.Author.Tests.{ltb-true, ltb-false, eqb-true, eq-eqb}
+use borrow.Author.Tests.{ltb-true, ltb-false, eqb-true, eq-eqb, ne-eqb}
 use Rattle.format.specs.Bytes.{Bytes, all, total, texts, same}
 
 -- a test passes or fails
@@ -23,6 +23,14 @@ below n k = ⊎-elim (λ t. inl (ltb-true n k t)) (λ f. inr (ltb-false n k f)) 
 -- a test does not both pass and fail
 pub clash {ℓ} : {A : Type ℓ} {b : Bool} → b ≡ true → b ≡ false → A
 clash p q = absurd (false≢true (sym q ∙ p))
+
+-- two numbers are equal in either order
+pub eqb-sym : (a b : ℕ) → eqb a b ≡ eqb b a
+eqb-sym a b =
+    ⊎-elim
+    (λ e. eq-eqb a b (sym (eqb-true b a e)) ∙ sym e)
+    (λ d. ne-eqb a b (λ e. clash (eq-eqb b a (sym e)) d) ∙ sym d)
+    (bcase (eqb b a))
 
 pub and-left : (a b : Bool) → (a && b) ≡ true → a ≡ true
 and-left true b h = refl

@@ -11,6 +11,7 @@ pub mod Writing
 pub mod Reading
 pub mod ReadingRfc
 pub mod LookingUp
+pub mod Addresses
 pub mod Showing
 pub mod Layout
 pub mod Lending

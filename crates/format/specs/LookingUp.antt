@@ -3,15 +3,17 @@ use Prim.Native.Nat.{ℕ, zero, suc}
 use mathlib.Core.Bool.{Bool, true, false}
 use mathlib.Core.List.{List, [], _∷_}
 use mathlib.Core.Option.{Option, none, some}
-use lib.Dec.{leb}
+use lib.Dec.{leb, eqb}
 use lib.ListN.{length, take}
-use Rattle.format.specs.Bytes.{Bytes, if_then_else_, total, has, upTo, past, occurs, less-sign, greater-sign, CRLFCRLF}
+use Rattle.format.specs.Bytes.{Bytes, if_then_else_, total, has, upTo, occurs, quote, less-sign, greater-sign, backslash, CRLFCRLF}
 use Rattle.format.specs.Characters.{isUtf8}
 use Rattle.format.specs.Refusals.{Out, accepted, refused, Check, pass, _>>_, _>>=_}
 use Rattle.format.specs.Message.{Entry, LoneHeader, Header, nameOf, Message, only}
 use Rattle.format.specs.Calls.{enough, bodyLength}
 use Rattle.format.specs.Writing.{writes}
 use Rattle.format.specs.Reading.{textParts}
+use Rattle.format.specs.declared.Quoting.{Quoting}
+use Rattle.format.specs.declared.Quoting.the-variants.{Outside, Inside, Covered}
 
 module _ {A : Type 0} where
   -- the n-th element, n counting from 0
@@ -85,9 +87,27 @@ bodyAsStr (some m) = isUtf8 (m .body)
 unfoldable pub closed : Bytes → Option Bytes
 closed s = if has greater-sign s then some (upTo greater-sign s) else none
 
--- Address: the part of a value between its first `<` and the next `>`, or none.
+-- a byte that stands so is a `<` outside quoted strings
+unfoldable pub opens : Quoting → ℕ → Bool
+opens Outside b = eqb b less-sign
+opens Inside b = false
+opens Covered b = false
+
+-- where the byte behind b stands: inside quotes a backslash covers it
+unfoldable pub behind : Quoting → ℕ → Quoting
+behind Outside b = if eqb b quote then Inside else Outside
+behind Inside b = if eqb b backslash then Covered else if eqb b quote then Outside else Inside
+behind Covered b = Inside
+
+-- what stands behind the first `<` outside a quoted string, in bytes whose first stands so; none where there is no such `<`, so where a quote
+-- is left unclosed
+unfoldable pub pastOpening : Quoting → Bytes → Option Bytes
+pastOpening q [] = none
+pastOpening q (b ∷ s) = if opens q b then some s else pastOpening (behind q b) s
+
+-- Address (T-02 of document 02): the part of a value between the first `<` outside a quoted string and the next `>`, or none.
 unfoldable pub address : Bytes → Option Bytes
-address v = if has less-sign v then closed (past less-sign v) else none
+address v = ofHeld (pastOpening Outside v) closed
 
 -- Body without a store: 1, 24, 2, 23.
 unfoldable pub bodyOfText : Bytes → Out Bytes

@@ -50,3 +50,10 @@ pub enum Manner {
     Source,
     Rfc,
 }
+
+// Where a byte of a header value stands: outside quoted strings, inside one, or there behind a backslash, which covers it.
+pub enum Quoting {
+    Outside,
+    Inside,
+    Covered,
+}

@@ -11,7 +11,7 @@ use Rattle.format.specs.Writing.{writes}
 use Rattle.format.specs.Lending.{makes, leaves, makesHeader, leavesHeader}
 use Rattle.format.specs.Showing.{digitsFrom, decimal, showNumbers, showMessage, show, showcpim}
 use Rattle.format_examples.specs.Specimens.{roomy}
-use Rattle.format_examples.specs.Rules.{Mistakes, Order, Rules, Lookups, Refused, Shown}
+use Rattle.format_examples.specs.Rules.{Mistakes, Order, Rules, Senders, Lookups, Refused, Shown}
 use Rattle.format.proofs.Computing.{computing}
 
 pub mistakes : Mistakes
@@ -29,6 +29,11 @@ unfolding computing
 rules =
     record { lowerCase = refl; eitherCase = (refl, refl); upperControl = refl; shortForms = (refl, refl); refusedEscapes = (refl, refl, refl, refl); nonShortest = refl; surrogates = refl; otherIllFormed = refl; truncated = refl; lineEnds = refl; blankHeader = refl; blankContent = refl; typeCase = refl; paramWins = refl; appended = refl; bodyInText = (refl, refl); bodyShort = refl; bodyWritten = refl; bodyInBuffer = (refl, refl) }
 
+pub senders : Senders
+unfolding computing
+senders =
+    record { addressed = refl; emptyAddress = refl; noAddress = refl; coach = refl; emptyName = refl; several = refl; coveredQuote = refl; coveredBackslash = refl; bareBackslash = refl; unclosed = refl; unclosedAgain = refl; stray = refl; quoteBehind = refl; unescaped = (refl, refl); unescapedTwice = (refl, refl) }
+
 long-text : (t : Bytes) (n : ℕ) → length t ≡ 20971521 → numbers (findBody t n) ≡ 1 carrying 20971521
 unfolding computing
 long-text t n h = rw h refl
@@ -41,9 +46,6 @@ pub lookups : Lookups
 unfolding computing
 lookups =
     record {
-      addressed = refl;
-      emptyAddress = refl;
-      noAddress = refl;
       firstValue = refl;
       secondValue = refl;
       thirdValue = refl;

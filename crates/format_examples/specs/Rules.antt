@@ -140,11 +140,32 @@ twoValues =
       body = 255 ∷ [];
     }
 
--- Looking up
-pub record Lookups : Type 0 where
+-- The address in a value
+pub record Senders : Type 0 where
   pub addressed : address (ascii "Alice <im:a@b>") ≡ some (ascii "im:a@b")
   pub emptyAddress : address (ascii "<>") ≡ some []
   pub noAddress : address (ascii "a > b < c") ≡ none
+  -- a `<` in a quoted string opens no address
+  pub coach : address (ascii "\"Lost < Found\" <im:lost@depot>") ≡ some (ascii "im:lost@depot")
+  pub emptyName : address (ascii "\"\" <b>") ≡ some (ascii "b")
+  pub several : address (ascii "Lost \"a\" and \"b<\" <im:x>") ≡ some (ascii "im:x")
+  -- inside quotes a backslash covers a quote, and another backslash
+  pub coveredQuote : address (ascii "\"a\\\"<b\" <c>") ≡ some (ascii "c")
+  pub coveredBackslash : address (ascii "\"a\\\\\" <b>") ≡ some (ascii "b")
+  -- outside quotes it covers nothing
+  pub bareBackslash : address (ascii "\\\"a <b>") ≡ none
+  -- a quote that is left unclosed: the first, a second pair's, a stray one
+  pub unclosed : address (ascii "\"a <b>") ≡ none
+  pub unclosedAgain : address (ascii "\"a\" b\" <c>") ≡ none
+  pub stray : address (ascii "5\" pipe <im:x>") ≡ none
+  -- behind the `<` quotes are plain
+  pub quoteBehind : address (ascii "<\"a>\"") ≡ some (ascii "\"a")
+  -- a covered quote on the wire is a plain one in the value that is held: with one of them there is no address, with two a `<` between them counts
+  pub unescaped : (readHeader (ascii "From: \"a\\\"b\" <im:x>") ≡ accepted (record { name = ascii "From"; value = ascii "\"a\"b\" <im:x>"; params = [] })) × (address (ascii "\"a\"b\" <im:x>") ≡ none)
+  pub unescapedTwice : (readHeader (ascii "From: \"a\\\"<b\\\"\" <im:x>") ≡ accepted (record { name = ascii "From"; value = ascii "\"a\"<b\"\" <im:x>"; params = [] })) × (address (ascii "\"a\"<b\"\" <im:x>") ≡ some (ascii "b\"\" <im:x"))
+
+-- Looking up
+pub record Lookups : Type 0 where
   pub firstValue : getHeader (some twoValues) (ascii "To") ≡ some (ascii "a")
   pub secondValue : getHeaderValue (some twoValues) (ascii "To") 1 ≡ some (ascii "b")
   pub thirdValue : getHeaderValue (some twoValues) (ascii "To") 2 ≡ none

@@ -3,8 +3,9 @@
 use Prim.Native.Nat.{ℕ, _+_}
 use mathlib.Core.Option.{Option, none, some}
 use lib.ListN.{length}
-use Rattle.format.specs.Bytes.{Bytes, total, upTo, less-sign}
+use Rattle.format.specs.Bytes.{Bytes, total}
 use Rattle.format.specs.Message.{LoneHeader, Message, needHeader}
+use Rattle.lookup_part.specs.AddressSpan.{openingPlace}
 use Rattle.lookup_places.specs.Spots.{entryPlace}
 
 -- the name of the n-th content header; content headers stand behind the headers
@@ -17,6 +18,6 @@ unfoldable pub aloneParamPlace : Option LoneHeader → ℕ → ℕ
 aloneParamPlace none n = 0
 aloneParamPlace (some h) n = entryPlace (16 + length (h .value)) (h .params) n
 
--- the address in a value: behind the first `<`
+-- the address in a value: behind the first `<` outside a quoted string
 unfoldable pub addressPlace : Bytes → ℕ
-addressPlace v = length (upTo less-sign v) + 1
+addressPlace v = openingPlace v + 1

@@ -6,7 +6,7 @@ use crate::spots::Part;
 use crate::spots::nth_pair;
 use format::CpimHeader;
 use format::CpimMessage;
-use octets::finding::find_byte;
+use lookup_part::address_span;
 use store_check::header_holds;
 use store_check::message_holds;
 ghost use mathlib.Core.Option.{Option};
@@ -105,13 +105,12 @@ pub fn alone_param_place(h: CpimHeader, store: &[u8], n: usize) -> Pair
     nth_pair(store, 16 + h.valuelen, h.size, h.params, n)
 }
 
-// Behind the first `<`.
+// Behind the first `<` outside a quoted string.
 pub fn address_place(value: &[u8]) -> Part
     ensures { λ r. ⌜ PartIs (now (value .entry)) (addressPlace (now (value .entry))) (address (now (value .entry))) r ⌝ }
 {
-    let mut found = false;
-    let part = lookup_part::address(value, &mut found);
-    if !found {
+    let span = address_span(value);
+    if !span.found {
         return Part {
             found: false,
             start: 0,
@@ -120,7 +119,7 @@ pub fn address_place(value: &[u8]) -> Part
     }
     Part {
         found: true,
-        start: find_byte(value, b'<') + 1,
-        length: part.len(),
+        start: span.from,
+        length: span.to - span.from,
     }
 }

@@ -1,0 +1,207 @@
+-- The address of a value by the value's shape (specs/Addresses.antt), and what follows from it. Assumes nothing.
+use Prim.Native.Nat.{ℕ}
+use mathlib.Core.Path.{_≡_, refl, sym, ap, _∙_}
+use mathlib.Core.Bool.{Bool, true, false, _||_, false≢true}
+use mathlib.Core.List.{[], _∷_, _++_, append-assoc, append-nil}
+use mathlib.Core.Option.{Option, none, some, Option·none-ne-some, Option·some-injective}
+use native.Mathlib.Omega.{arith}
+use lib.Dec.{eqb, leb}
+use borrow.Author.Tests.{eqb-true, ne-eqb, leb-true}
+use Rattle.format.specs.Bytes.{Bytes, if_then_else_, all, any, has, upTo, past, quote, less-sign, greater-sign, backslash}
+use Rattle.format.specs.Characters.{wellFormed, isUtf8}
+use Rattle.format.specs.LookingUp.{ofHeld, closed, opens, behind, pastOpening, address}
+use Rattle.format.specs.Addresses.{Enclosed, nothing, byte, pair, Piece, string, other, Lead, empty, piece, Addressed, plainAddress, Addresses}
+use Rattle.format.specs.declared.Quoting.{Quoting}
+use Rattle.format.specs.declared.Quoting.the-variants.{Outside, Inside, Covered}
+use Rattle.format.proofs.Lists.{eqb-sym, or-false-left, or-false-right, all-head, all-tail}
+use Rattle.format.proofs.Characters.Chars.{whole-high, utf8-cut}
+use Rattle.format.proofs.Splitting.Split.{has-at, upTo-at, upTo-past, upTo-clear}
+
+-- From the shape: pieces are passed over.
+enclosed-past : {s : Bytes} → Enclosed s → (t : Bytes) → pastOpening Inside (s ++ t) ≡ pastOpening Inside t
+unfolding pastOpening opens behind
+enclosed-past nothing t = refl
+enclosed-past (byte q k e) t = rw (q, k) (enclosed-past e t)
+enclosed-past (pair e) t = enclosed-past e t
+
+piece-past : {p : Bytes} → Piece p → (t : Bytes) → pastOpening Outside (p ++ t) ≡ pastOpening Outside t
+unfolding pastOpening opens behind
+piece-past (string {s} e) t = rw (append-assoc s (quote ∷ []) t) (enclosed-past e (quote ∷ t))
+piece-past (other q l) t = rw (l, q) refl
+
+lead-past : {l : Bytes} → Lead l → (t : Bytes) → pastOpening Outside (l ++ t) ≡ pastOpening Outside t
+lead-past empty t = refl
+lead-past (piece {p} {s} x l) t = rw (append-assoc p s t) (piece-past x (s ++ t) ∙ lead-past l t)
+
+-- To the shape: the end of a quoted string, then a lead.
+record Closes (v : Bytes) : Type 0 where
+  inner : Bytes
+  lead : Bytes
+  encloses : Enclosed inner
+  leads : Lead lead
+  shape : v ≡ inner ++ (quote ∷ lead)
+
+-- what may stand before the `<` where the first byte stands so
+abbrev Before : Quoting → Bytes → Type 0
+Before Outside v = Lead v
+Before Inside v = Closes v
+Before Covered v = (b : ℕ) × (s : Bytes) × Closes s × (v ≡ b ∷ s)
+
+-- one more byte in front
+extend : (q : Quoting) (b : ℕ) (v : Bytes) → opens q b ≡ false → Before (behind q b) v → Before q (b ∷ v)
+unfolding opens behind
+extend Outside b v o h = go (eqb b quote) refl h
+  where
+    go : (x : Bool) → eqb b quote ≡ x → Before (if x then Inside else Outside) v → Lead (b ∷ v)
+    go true e c = rw (eqb-true b quote e, c .shape, sym (append-assoc (c .inner) (quote ∷ []) (c .lead))) (piece (string (c .encloses)) (c .leads))
+    go false e l = piece (other e o) l
+extend Inside b v o h = go (eqb b backslash) refl h
+  where
+    plain : (x : Bool) → eqb b backslash ≡ false → eqb b quote ≡ x → Before (if x then Outside else Inside) v → Closes (b ∷ v)
+    plain true k e l = record { inner = []; lead = v; encloses = nothing; leads = l; shape = ap (λ (a : ℕ). a ∷ v) (eqb-true b quote e) }
+    plain false k e c = record { inner = b ∷ c .inner; lead = c .lead; encloses = byte e k (c .encloses); leads = c .leads; shape = ap (λ (s : Bytes). b ∷ s) (c .shape) }
+
+    go : (x : Bool) → eqb b backslash ≡ x → Before (if x then Covered else if eqb b quote then Outside else Inside) v → Closes (b ∷ v)
+    go true e (a, s, c, r) =
+        record {
+          inner = backslash ∷ a ∷ c .inner;
+          lead = c .lead;
+          encloses = pair (c .encloses);
+          leads = c .leads;
+          shape = λ i. eqb-true b backslash e i ∷ (r ∙ ap (λ (t : Bytes). a ∷ t) (c .shape)) i;
+        }
+    go false e h = plain (eqb b quote) e refl h
+extend Covered b v o h = (b, v, h, refl)
+
+-- only a `<` outside quoted strings opens
+first : (q : Quoting) (b : ℕ) (s : Bytes) → opens q b ≡ true → Before q [] × (b ∷ s ≡ less-sign ∷ s)
+unfolding opens
+first Outside b s o = (empty, ap (λ (a : ℕ). a ∷ s) (eqb-true b less-sign o))
+first Inside b s o = absurd (false≢true o)
+first Covered b s o = absurd (false≢true o)
+
+before : (q : Quoting) (v s : Bytes) → pastOpening q v ≡ some s → (l : Bytes) × Before q l × (v ≡ l ++ (less-sign ∷ s))
+unfolding pastOpening
+before q [] s e = absurd (Option·none-ne-some s e)
+before q (b ∷ v) s e = go (opens q b) refl e (before (behind q b) v s)
+  where
+    go : (x : Bool) → opens q b ≡ x → (if x then some v else pastOpening (behind q b) v) ≡ some s
+        → (pastOpening (behind q b) v ≡ some s → (l : Bytes) × Before (behind q b) l × (v ≡ l ++ (less-sign ∷ s)))
+        → (l : Bytes) × Before q l × (b ∷ v ≡ l ++ (less-sign ∷ s))
+    go true o e ih = let f = first q b v o in ([], f .0, f .1 ∙ ap (λ (t : Bytes). less-sign ∷ t) (Option·some-injective v s e))
+    go false o e ih = let (l, h, shape) = ih e in (b ∷ l, extend q b l o h, ap (λ (t : Bytes). b ∷ t) shape)
+
+pub opening-shape : (v s : Bytes) → pastOpening Outside v ≡ some s → (l : Bytes) × Lead l × (v ≡ l ++ (less-sign ∷ s))
+opening-shape v s e = before Outside v s e
+
+-- up to the next `>`
+closed-at : (a rest : Bytes) → has greater-sign a ≡ false → closed (a ++ (greater-sign ∷ rest)) ≡ some a
+unfolding closed
+closed-at a rest h = rw (has-at greater-sign a rest, upTo-at greater-sign a rest h) refl
+
+pub closed-shape : (s a : Bytes) → closed s ≡ some a → (s ≡ a ++ (greater-sign ∷ past greater-sign s)) × (has greater-sign a ≡ false)
+unfolding closed
+closed-shape s a e = go (has greater-sign s) refl e
+  where
+    go : (x : Bool) → has greater-sign s ≡ x → (if x then some (upTo greater-sign s) else none) ≡ some a → (s ≡ a ++ (greater-sign ∷ past greater-sign s)) × (has greater-sign a ≡ false)
+    go true h e =
+        let is : upTo greater-sign s ≡ a = Option·some-injective (upTo greater-sign s) a e in
+        (upTo-past greater-sign s h ∙ ap (λ (t : Bytes). t ++ (greater-sign ∷ past greater-sign s)) is, sym (ap (has greater-sign) is) ∙ upTo-clear greater-sign s)
+    go false h e = absurd (Option·none-ne-some a e)
+
+-- The address, both ways.
+pub address-of : (v a : Bytes) → Addressed v a → address v ≡ some a
+unfolding address pastOpening opens
+address-of v a d =
+    rw (d .shape, lead-past (d .leads) (less-sign ∷ (a ++ (greater-sign ∷ d .rest)))) (closed-at a (d .rest) (d .clear))
+
+pub addressed : (v a : Bytes) → address v ≡ some a → Addressed v a
+unfolding address
+addressed v a e = go (pastOpening Outside v) refl e
+  where
+    go : (o : Option Bytes) → pastOpening Outside v ≡ o → ofHeld o closed ≡ some a → Addressed v a
+    go none p e = absurd (Option·none-ne-some a e)
+    go (some s) p e =
+        let (l, leads, shape) = before Outside v s p in
+        let (ends, clear) = closed-shape s a e in
+        record { lead = l; rest = past greater-sign s; leads = leads; shape = shape ∙ ap (λ (t : Bytes). l ++ (less-sign ∷ t)) ends; clear = clear }
+
+no-address : (v : Bytes) → ((a : Bytes) → Addressed v a → ⊥) → address v ≡ none
+no-address v h = go (address v) refl
+  where
+    go : (o : Option Bytes) → address v ≡ o → o ≡ none
+    go none e = refl
+    go (some a) e = absurd (h a (addressed v a e))
+
+-- a quote that is left unclosed
+unclosed-quote : (l s : Bytes) → Lead l → Enclosed s
+    → (address (l ++ (quote ∷ s)) ≡ none) × (address (l ++ (quote ∷ (s ++ (backslash ∷ [])))) ≡ none)
+unfolding address pastOpening opens behind
+unclosed-quote l s t e = (
+  rw (lead-past t (quote ∷ s), sym (append-nil s)) (rw (enclosed-past e []) refl),
+  rw (lead-past t (quote ∷ (s ++ (backslash ∷ []))), enclosed-past e (backslash ∷ [])) refl,
+)
+
+-- without a `<` none opens
+pub none-opens : (q : Quoting) (v : Bytes) → has less-sign v ≡ false → pastOpening q v ≡ none
+unfolding pastOpening opens any
+none-opens q [] h = refl
+none-opens q (b ∷ v) h = rw (other-byte q (or-false-left (eqb less-sign b) (has less-sign v) h)) (none-opens (behind q b) v (or-false-right (eqb less-sign b) (has less-sign v) h))
+  where
+    other-byte : (q : Quoting) → eqb less-sign b ≡ false → opens q b ≡ false
+    other-byte Outside e = eqb-sym b less-sign ∙ e
+    other-byte Inside e = refl
+    other-byte Covered e = refl
+
+-- where no quote stands before the first `<`, the first one of all opens
+pub first-opens : (v : Bytes) → has quote (upTo less-sign v) ≡ false → pastOpening Outside v ≡ (if has less-sign v then some (past less-sign v) else none)
+unfolding pastOpening opens behind any upTo past
+first-opens [] h = refl
+first-opens (b ∷ v) h = rw (eqb-sym b less-sign, eqb-sym b quote) (go (eqb less-sign b) h (first-opens v))
+  where
+    go : (x : Bool) → has quote (if x then [] else b ∷ upTo less-sign v) ≡ false
+        → (has quote (upTo less-sign v) ≡ false → pastOpening Outside v ≡ (if has less-sign v then some (past less-sign v) else none))
+        → (if x then some v else pastOpening (if eqb quote b then Inside else Outside) v)
+        ≡ (if (x || has less-sign v) then some (if x then v else past less-sign v) else none)
+    go true h ih = refl
+    go false h ih =
+        rw (or-false-left (eqb quote b) (has quote (upTo less-sign v)) h) (ih (or-false-right (eqb quote b) (has quote (upTo less-sign v)) h))
+
+old-answer : (v : Bytes) → has quote (upTo less-sign v) ≡ false → address v ≡ plainAddress v
+unfolding address plainAddress
+old-answer v h = rw (first-opens v h) (go (has less-sign v))
+  where
+    go : (x : Bool) → ofHeld (if x then some (past less-sign v) else none) closed ≡ (if x then closed (past less-sign v) else none)
+    go true = refl
+    go false = refl
+
+-- bytes of 128 or more are no signs
+high-past : (g s : Bytes) → all (leb 128) g ≡ true → pastOpening Inside (g ++ s) ≡ pastOpening Inside s
+unfolding pastOpening opens behind
+high-past [] s h = refl
+high-past (b ∷ g) s h =
+    let high = leb-true 128 b (all-head (leb 128) b g h) in
+    rw (ne-eqb b backslash (omega arith), ne-eqb b quote (omega arith)) (high-past g s (all-tail (leb 128) b g h))
+
+covered-character : (g s : Bytes) → wellFormed g ≡ true → pastOpening Inside (backslash ∷ (g ++ s)) ≡ pastOpening Inside s
+unfolding pastOpening opens behind wellFormed
+covered-character [] s h = absurd (false≢true h)
+covered-character (b ∷ []) s h = refl
+covered-character (b ∷ c ∷ g) s h = high-past (c ∷ g) s (all-tail (leb 128) b (c ∷ g) (whole-high b c g h))
+
+address-utf8 : (v a : Bytes) → isUtf8 v ≡ true → address v ≡ some a → isUtf8 a ≡ true
+address-utf8 v a u e =
+    let d = addressed v a e in
+    let behind-sign = utf8-cut (d .lead) less-sign (a ++ (greater-sign ∷ d .rest)) (omega arith) (sym (ap isUtf8 (d .shape)) ∙ u) in
+    utf8-cut a greater-sign (d .rest) (omega arith) (behind-sign .1) .0
+
+pub addresses : Addresses
+addresses =
+    record {
+      found = λ v a. (addressed v a, address-of v a);
+      absent = λ v. ((λ e a d. Option·none-ne-some a (sym e ∙ address-of v a d)), no-address v);
+      unclosed = unclosed-quote;
+      stays = old-answer;
+      covers = covered-character;
+      utf8 = address-utf8;
+    }
