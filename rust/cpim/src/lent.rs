@@ -55,6 +55,7 @@
 //! # Ok::<(), cpim::Refusal>(())
 //! ```
 
+pub use crate::address::address;
 pub use crate::places::{Entries, Entry, Places, MOST};
 pub use crate::raw::{HeaderRecord, Record};
 
@@ -252,6 +253,20 @@ impl<B: AsRef<[u8]>> Message<'_, B> {
         raw::get_header(self.record, self.head, name.as_bytes()).of(self.head).map(text)
     }
 
+    /// The address in the first value of a name, by the rule of [`address`].
+    ///
+    /// ```
+    /// # use cpim::lent::Message;
+    /// let (mut head, mut body) = ([0; 600], [0; 100]);
+    /// let mut m = Message::new(b"text/plain", b"Found on line 4", &mut head, &mut body)?;
+    /// m.with_from(br#""Lost < Found" <im:lost@depot>"#)?;
+    /// assert_eq!((m.address("From"), m.address("To")), (Some("im:lost@depot"), None));
+    /// # Ok::<(), cpim::Refusal>(())
+    /// ```
+    pub fn address(&self, name: &str) -> Option<&str> {
+        self.get_header(name).and_then(address)
+    }
+
     /// The n-th value of a name, counting from 0.
     pub fn nth_header(&self, name: &str, n: usize) -> Option<&str> {
         raw::get_header_value(self.record, self.head, name.as_bytes(), n).of(self.head).map(text)
@@ -305,11 +320,6 @@ impl<'a> Header<'a> {
 pub fn body_of<'a>(text: &'a [u8], buffer: &'a mut [u8]) -> Result<&'a [u8], Refusal> {
     let len = raw::read_body(text, buffer).accepted()?;
     Ok(raw::body_part(text, buffer, len).of(text, buffer))
-}
-
-/// The address in a value: what stands between its first `<` and the next `>`.
-pub fn address(value: &str) -> Option<&str> {
-    raw::address(value.as_bytes()).of(value.as_bytes()).map(text)
 }
 
 impl<B> fmt::Debug for Message<'_, B> {

@@ -47,8 +47,8 @@
 //!   no-break space at its end comes back ([`CpimMessage::to_string`]).
 //! - Each call judges the whole message anew before it changes it, so a list of calls on a message of many headers costs more.
 //! - Added: [`parse_cpim_rfc`], the second reading; [`CpimMessage::comes_back`], [`CpimMessage::loss`] and [`CpimMessage::comes_back_rfc`];
-//!   [`CpimError::number`], [`CpimError::carried`] and [`CpimError::refusal`]; [`lent`], messages in stores that the caller lends, nothing being
-//!   allocated; [`raw`], the C functions as they are.
+//!   [`address()`] and [`CpimMessage::address`], the address in a header value; [`CpimError::number`], [`CpimError::carried`] and
+//!   [`CpimError::refusal`]; [`lent`], messages in stores that the caller lends, nothing being allocated; [`raw`], the C functions as they are.
 //!
 //! # Examples
 //!
@@ -162,6 +162,7 @@
 #![deny(unsafe_code)]
 #![forbid(unsafe_op_in_unsafe_fn)]
 
+mod address;
 mod error;
 mod header;
 pub mod lent;
@@ -172,6 +173,7 @@ mod places;
 pub mod raw;
 mod text;
 
+pub use address::address;
 pub use error::{CpimError, Refusal};
 pub use header::CpimHeader;
 pub use loss::Loss;

@@ -1,5 +1,6 @@
 //! A message in stores of its own: what a call answers and does is the proved functions', and where the entries stand too.
 
+use crate::address::address;
 use crate::error::{CpimError, Refusal};
 use crate::header::{pairs, CpimHeader};
 use crate::loss::Loss;
@@ -161,6 +162,22 @@ impl CpimMessage {
     /// Gets the first value of a header.
     pub fn get_header(&self, name: &str) -> Option<&str> {
         self.places().first(name).map(|e| e.value())
+    }
+
+    /// Gets the address in the first value of a header, by the rule of [`address`](crate::address()).
+    ///
+    /// None where there is no such header, or no address in its first value:
+    ///
+    /// ```
+    /// let mut m = cpim::CpimMessage::new("text/plain", b"Found on line 4".to_vec())?.with_from(r#""Lost < Found" <im:lost@depot>"#)?;
+    /// m.add_header("cc", "North depot")?;
+    /// m.add_header("cc", "<im:north@depots.example>")?;
+    /// assert_eq!(m.address("From"), Some("im:lost@depot"));
+    /// assert_eq!((m.address("cc"), m.address("To")), (None, None));
+    /// # Ok::<(), cpim::CpimError>(())
+    /// ```
+    pub fn address(&self, name: &str) -> Option<&str> {
+        self.get_header(name).and_then(address)
     }
 
     /// Gets all values of a header.

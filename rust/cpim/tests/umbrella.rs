@@ -1,7 +1,7 @@
 //! The notice of a found umbrella: the depot is a parameter of a header.
 
 use cpim::lent::{self, Header, Message};
-use cpim::{parse_cpim, CpimError, CpimHeader, CpimMessage, Loss, Refusal};
+use cpim::{parse_cpim, parse_cpim_rfc, CpimError, CpimHeader, CpimMessage, Loss, Refusal};
 
 fn notice() -> CpimMessage {
     let m = CpimMessage::new("text/plain", b"Handle of wood.".to_vec()).unwrap();
@@ -138,10 +138,86 @@ fn lent_stores() {
     assert_eq!(Message::held(record, &mut head, &mut body).err(), Some(Refusal { number: 25, carried: 0 }));
 }
 
+/// What is between the first `<` outside a quoted string and the next `>`.
 #[test]
 fn addresses() {
-    assert_eq!(lent::address("North depot <im:north@depots.example>"), Some("im:north@depots.example"));
-    assert_eq!((lent::address("> <>"), lent::address("<im:a"), lent::address("im:a>")), (Some(""), None, None));
+    for (value, found) in [
+        (r#""Lost < Found" <im:lost@depot>"#, Some("im:lost@depot")),
+        (r#""a\"<b" <c>"#, Some("c")),
+        (r#""a\\" <b>"#, Some("b")),
+        (r#""a <b>"#, None),
+        (r#""a" b" <c>"#, None),
+        (r#"<"a>""#, Some("\"a")),
+        (r#"\"a <b>"#, None),
+        (r#""" <b>"#, Some("b")),
+        (r#"5" pipe <im:x>"#, None),
+        (r#""Fund < Büro" Zürich \ <im:büro@zürich>"#, Some("im:büro@zürich")),
+        (r#""\é\€<" 🚌 <🧤>"#, Some("🧤")),
+        ("North depot <im:north@depots.example>", Some("im:north@depots.example")),
+        ("> <>", Some("")),
+        ("<<a>>", Some("<a")),
+        (r#"<a> "b"#, Some("a")),
+        ("<im:a", None),
+        (r#"<"a"#, None),
+        ("im:a>", None),
+        (r#""<a>\"#, None),
+        ("", None),
+    ] {
+        assert_eq!((cpim::address(value), lent::address(value)), (found, found), "{value}");
+    }
+}
+
+/// The sender of a message in lent stores: the value held, and its address.
+fn sender<'m, B: AsRef<[u8]>>(m: &'m Message<'_, B>) -> (Option<&'m str>, Option<&'m str>) {
+    (m.get_header("From"), m.address("From"))
+}
+
+/// A notice with this value behind its From, read by every call that reads one: the value held, and its address.
+fn check_sender(from: &str, value: &str, found: Option<&str>) {
+    let text = format!("Message/CPIM\r\n\r\nFrom: {from}\r\n\r\nContent-type: text/plain\r\n\r\nLeft on line 4.");
+    let due = (Some(value), found);
+    for parse in [parse_cpim, parse_cpim_rfc] {
+        let m = parse(&text).unwrap();
+        assert_eq!((m.get_header("From"), m.address("From")), due, "{from}");
+        assert_eq!((cpim::address(value), m.address("To")), (found, None), "{from}");
+        assert_eq!(parse(&m.to_string().unwrap()).unwrap().address("From"), found, "written and read again: {from}");
+    }
+    let (text, mut head, mut body) = (text.as_bytes(), [0; 600], [0; 100]);
+    assert_eq!(sender(&Message::parse(text, &mut head, &mut body).unwrap()), due, "{from}");
+    assert_eq!(sender(&Message::parse_rfc(text, &mut head, &mut body).unwrap()), due, "{from}");
+    assert_eq!(sender(&Message::parse_in_place(text, &mut head, &mut body).unwrap()), due, "{from}");
+    assert_eq!(sender(&Message::parse_in_place_rfc(text, &mut head, &mut body).unwrap()), due, "{from}");
+}
+
+#[test]
+fn a_coach_firms_notice() {
+    let firm = r#""Lost < Found" <im:lost@depot>"#;
+    check_sender(firm, firm, Some("im:lost@depot"));
+    // As it is written here.
+    check_sender(r#"\"Lost < Found\" <im:lost@depot>"#, firm, Some("im:lost@depot"));
+    let unclosed = r#""Lost < Found <im:lost@depot>"#;
+    check_sender(unclosed, unclosed, None);
+}
+
+/// The rule is for the value as held: an escape of the text is no backslash there.
+#[test]
+fn a_quote_escaped_in_the_text() {
+    check_sender(r#""a\"b" <im:x>"#, r#""a"b" <im:x>"#, None);
+    check_sender(r#""a\\\"<b" <im:x>"#, r#""a\"<b" <im:x>"#, Some("im:x"));
+    check_sender(r#"Lost \u003cim:x>"#, "Lost <im:x>", Some("im:x"));
+}
+
+/// The first value alone, whatever the others are.
+#[test]
+fn the_address_of_a_header_with_more_values() {
+    let mut m = notice();
+    for (value, found) in [("North depot", None), ("<im:a>", None)] {
+        m.add_header("cc", value).unwrap();
+        assert_eq!((m.address("cc"), m.address("CC")), (found, None));
+    }
+    m.set_header("cc", r#""<" <im:b>"#).unwrap();
+    m.add_header("cc", "none").unwrap();
+    assert_eq!(m.address("cc"), Some("im:b"));
 }
 
 #[test]

@@ -137,7 +137,8 @@ pub fn places(m: Record, head: &[u8], out: &mut [usize]) -> Numbers {
     unsafe { cpim_places(m, head.as_ptr(), head.len(), out.as_mut_ptr(), out.len()) }
 }
 
-/// The part of a value between its first `<` and the next `>`.
+/// The part of a value between its first `<` outside a quoted string and the next `>`, by the rule of [`address`](crate::address()). The value may be
+/// any bytes.
 pub fn address(value: &[u8]) -> Part {
     unsafe { cpim_address(value.as_ptr(), value.len()) }
 }
