@@ -210,7 +210,12 @@ fn drawn(random: &mut Random, behind: bool) -> Vec<u8> {
     let shape = random.below(24);
     let odd = random.pick(&[30, 100, 1 << 30]);
     let plain = shape < 4 || random.once_in(3);
-    let kind = Kind { odd: if plain { 1 << 30 } else { odd }, long: random.once_in(12), ends: random.once_in(2) };
+    let kind = Kind {
+        odd: if plain { 1 << 30 } else { odd },
+        long: random.once_in(12),
+        ends: random.once_in(2),
+        senders: true,
+    };
     let separator = random.pick(&["\r\n\r\n", "\r\n\r\n", "\n\n"]);
     let ends: [&str; 8] = if separator == "\n\n" {
         ["\n", "\n", "\n", "\r\n", "\r\n", "\n", "\r", "\n"]

@@ -1,6 +1,7 @@
 //! Names and values: plain ones, those at and around every limit, and those that are refused.
 
 use crate::ends::with_ends;
+use crate::senders::sender;
 use common::{is_plain_white, Random};
 
 /// At every limit, one below and one above.
@@ -159,13 +160,15 @@ fn odd(random: &mut Random, mut s: Vec<u8>) -> Vec<u8> {
     s
 }
 
-/// How texts are drawn: one in `odd` is at a limit or out of the ordinary; long ones where `long` is set. Of header values one in two has an end
-/// drawn for it where `ends` is set, and else none has white space at an end that is no control character.
+/// How texts are drawn: one in `odd` is at a limit or out of the ordinary; long ones where `long` is set. Of header values one in four is a sender's
+/// where `senders` is set; and one in two has an end drawn for it where `ends` is set, and else none has white space at an end that is no control
+/// character.
 #[derive(Clone, Copy)]
 pub struct Kind {
     pub odd: usize,
     pub long: bool,
     pub ends: bool,
+    pub senders: bool,
 }
 
 impl Kind {
@@ -217,7 +220,8 @@ impl Kind {
     }
 
     pub fn header_value(self, random: &mut Random) -> Vec<u8> {
-        let value = self.value(random);
+        let signed = self.senders && random.once_in(4);
+        let value = if signed { sender(random).into_bytes() } else { self.value(random) };
         let Ok(text) = std::str::from_utf8(&value) else { return value };
         match (self.ends, random.once_in(2)) {
             (true, true) => with_ends(random, text).into_bytes(),

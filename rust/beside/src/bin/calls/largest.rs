@@ -12,7 +12,7 @@ fn bodies(stores: &mut Stores) {
     const MOST: usize = 10_485_760;
     let mut random = Random::new(7);
     let body: Vec<u8> = (0..MOST + 1).map(|_| random.byte()).collect();
-    let kind = Kind { odd: 1 << 30, long: false, ends: true };
+    let kind = Kind { odd: 1 << 30, long: false, ends: true, senders: true };
     let enough = Lengths { head: 2_000, body: MOST + 1, header: 200 };
     let new = |n: usize| Call { function: New, first: b"text/plain".to_vec(), second: body[..n].to_vec() };
     let set = |n: usize| Call { function: SetBody, first: body[body.len() - n..].to_vec(), second: Vec::new() };

@@ -109,7 +109,8 @@ const HEADERS: [Function; 9] = [SetHeader, SetHeader, AddHeader, AddObj, From, T
 fn list(random: &mut Random, stores: &mut Stores) {
     stores.begin();
     let shape = random.below(10);
-    let kind = Kind { odd: random.pick(&[4, 8, 16]), long: matches!(shape, 3 | 7), ends: random.once_in(2) };
+    let kind =
+        Kind { odd: random.pick(&[4, 8, 16]), long: matches!(shape, 3 | 7), ends: random.once_in(2), senders: true };
     let room = match random.below(4) {
         0 => Room::All,
         1 => Room::Fixed(Lengths {

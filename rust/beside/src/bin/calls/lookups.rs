@@ -1,5 +1,6 @@
 //! The lookups beside the source: each place is the layout's, what stands there is what the source has, and absent is all zeros.
 
+use beside::address::{address, Addresses};
 use beside::exports::BY_LOOKUPS;
 use beside::spots::{rows_of, spots, spots_alone, Spot};
 use cpim::raw::{self, HeaderRecord, Numbers, Pair, Part, Record};
@@ -21,11 +22,12 @@ pub struct LentAlone<'a> {
     pub header: Option<&'a CpimHeader>,
 }
 
-/// How many answers each function of `BY_LOOKUPS` gave, and how many of all were places that were found.
+/// How many answers each function of `BY_LOOKUPS` gave, and how many of all were places that were found; the addresses in values that are held.
 #[derive(Clone, Default)]
 pub struct Looked {
     pub answers: [u64; BY_LOOKUPS.len()],
     pub found: u64,
+    pub addresses: Addresses,
 }
 
 /// What differs, as it is here and as it must be.
@@ -47,6 +49,7 @@ impl Looked {
     pub fn add(&mut self, other: &Looked) {
         self.answers.iter_mut().zip(other.answers).for_each(|(a, b)| *a += b);
         self.found += other.found;
+        self.addresses.add(&other.addresses);
     }
 
     pub fn all(&self) -> u64 {
@@ -76,11 +79,9 @@ impl Looked {
         alike(function, asked, here.of(store), there.map(|spot| (spot.name, spot.value)))
     }
 
-    /// The first `<`, and the first `>` behind it.
+    /// By the request's words.
     pub fn address(&mut self, value: &[u8]) -> Compared {
-        let next = |from: usize, sign: u8| value[from..].iter().position(|b| *b == sign);
-        let there = next(0, b'<').map(|at| at + 1).and_then(|start| Some((start, next(start, b'>')?)));
-        let there = there.map_or_else(Part::default, |(start, length)| Part { found: true, start, length });
+        let there = address(value).map_or_else(Part::default, |(start, length)| Part { found: true, start, length });
         self.part("address", &value.escape_ascii().to_string(), raw::address(value), there)
     }
 
@@ -91,7 +92,10 @@ impl Looked {
         self.value("get_header", &asked, head, raw::get_header(r, head, name), values.first().copied())?;
         for k in and_beyond(values.len()) {
             let value = values.get(k).copied();
-            value.map_or(Ok(()), |spot| self.address(spot.value))?;
+            if let Some(spot) = value {
+                self.addresses.count(spot.value);
+                self.address(spot.value)?;
+            }
             self.value("get_header_value", &(&asked, k), head, raw::get_header_value(r, head, name, k), value)?;
             let params = value.map_or(&[][..], |spot| &spot.params);
             for n in (0..params.len()).chain([params.len()]) {

@@ -29,14 +29,16 @@ fn add(sum: &mut Tally, t: &Tally) {
     sum.looked.add(&t.looked);
 }
 
-/// Every value of up to nine pieces.
-fn addresses(stores: &mut Stores) {
-    words(&[b'<', b'>', b'a', 0xFF], 9, (0, 1), |value| {
+/// Every value of up to nine pieces, and of up to seven where 0xFF, which is in no character, is a piece too: a part of them.
+fn addresses(stores: &mut Stores, part: usize) {
+    let mut look_up = |value: &[u8]| {
         if let Err([what, here, there]) = stores.tally.looked.address(value) {
             eprintln!("{what} differs.\nhere: {here}\nRust: {there}");
             exit(1);
         }
-    });
+    };
+    words(b"a\"\\<>", 9, (part, PARTS + 1), &mut look_up);
+    words(b"a\"\\<>\xFF", 7, (part, PARTS + 1), &mut look_up);
 }
 
 /// What a thread lends, and what it counted: in lists, and on what was damaged.
@@ -52,8 +54,8 @@ fn part(w: &mut Worker, part: usize) {
         of(stores);
         add(sum, &stores.tally);
     };
+    run(&mut w.lists, &mut w.stores, &|stores| addresses(stores, part));
     if part == 0 {
-        run(&mut w.lists, &mut w.stores, &addresses);
         return run(&mut w.lists, &mut Stores::new(10_485_761), &largest::run);
     }
     run(&mut w.lists, &mut w.stores, &|stores| lists::part(stores, part, LISTS));
@@ -94,6 +96,7 @@ fn main() {
     for (name, looked) in [("behind calls", &lists.looked), ("on damaged stores and records", &damaged.looked)] {
         println!("Lookups {name}: {}, {} places found.", grouped(looked.all()), grouped(looked.found));
     }
+    lists.looked.addresses.say(5_000);
     if lost.contains(&0) || whole == 0 || nothing == 0 || free != 0 || lists.second.contains(&0) {
         eprintln!("a clause never failed first, or 8 was given, or all or none come back: {:?}", lists.losses);
         exit(1);

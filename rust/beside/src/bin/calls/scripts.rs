@@ -52,7 +52,7 @@ fn put_call(script: &mut Vec<u8>, call: &Call, stores: &Stores, lengths: Lengths
 
 fn script(random: &mut Random, stores: &mut Stores) {
     stores.begin();
-    let kind = Kind { odd: random.pick(&[8, 16]), long: false, ends: random.once_in(2) };
+    let kind = Kind { odd: random.pick(&[8, 16]), long: false, ends: random.once_in(2), senders: true };
     let lengths = Lengths { head: 256 + random.below(1_500), body: 600, header: 16 + random.below(150) };
     let room = Room::Fixed(lengths);
     let call = new(random, kind);

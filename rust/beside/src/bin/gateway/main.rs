@@ -1,9 +1,10 @@
-//! The gateway's crate beside the source: lists of calls and texts, both sides through the same lines of code, and its second reading beside the
-//! request's words. Prints how many answers and how many texts were compared; the first difference ends it with a failure.
+//! The gateway's crate beside the source: lists of calls and texts, both sides through the same lines of code, and its second reading and addresses
+//! beside the requests' words. Prints how many answers and how many texts were compared; the first difference ends it with a failure.
 
 mod long;
 mod side;
 
+use beside::address::{address_of, Addresses};
 use beside::call::Call;
 use beside::manner::{Manner, MANNERS};
 use beside::names::Kind;
@@ -32,6 +33,7 @@ struct Both {
     /// How often each answer was given: by the calls and the source's reading, and by the second one.
     refused: [[u64; ANSWERS]; 2],
     texts: Texts,
+    addresses: Addresses,
 }
 
 impl Both {
@@ -74,10 +76,15 @@ impl Both {
             let read = cpim::parse_cpim(&text).as_ref() == Ok(m);
             let here = (m.comes_back(), m.loss().is_none(), read);
             let here_second = (m.comes_back_rfc(), cpim::parse_cpim_rfc(&text).as_ref() == Ok(m));
+            let values = NAMES.map(|name| k.get_header(name));
+            let addresses = NAMES.map(|name| m.address(name).map(str::to_string));
+            let by_words = values.map(|value| value.and_then(address_of).map(str::to_string));
+            values.into_iter().flatten().for_each(|value| self.addresses.count(value.as_bytes()));
             self.texts.compared(due);
             self.texts.read_back(due, whole);
             self.same("What comes back", here, (whole, whole, whole));
             self.same("What comes back by the second reading", here_second, (second, second));
+            self.same("An address", addresses, by_words);
         }
     }
 
@@ -111,7 +118,7 @@ impl Both {
 }
 
 fn list(both: &mut Both, random: &mut Random) {
-    let kind = Kind { odd: random.pick(&[4, 8, 16]), long: random.once_in(5), ends: random.once_in(2) };
+    let kind = Kind { odd: random.pick(&[4, 8, 16]), long: random.once_in(5), ends: random.once_in(2), senders: true };
     both.call(&random_calls::new(random, kind));
     for _ in 0..random.below(40) {
         both.call(&random_calls::any(random, kind, &[]));
@@ -124,7 +131,7 @@ fn text(both: &mut Both, random: &mut Random, text: fn(&mut Random) -> Vec<u8>) 
         damage::damage(random, &mut text);
     }
     both.parse(&String::from_utf8_lossy(&text));
-    let kind = Kind { odd: 8, long: false, ends: random.once_in(2) };
+    let kind = Kind { odd: 8, long: false, ends: random.once_in(2), senders: true };
     for _ in 0..random.below(4) {
         both.call(&random_calls::any(random, kind, &[]));
     }
@@ -160,5 +167,8 @@ fn main() {
     let mut texts = Texts::default();
     all.iter().for_each(|b| texts.add(&b.texts));
     texts.say(100_000);
+    let mut addresses = Addresses::default();
+    all.iter().for_each(|b| addresses.add(&b.addresses));
+    addresses.say(5_000);
     println!("The gateway's crate beside Rust: {} answers, no difference", grouped(answers));
 }

@@ -6,7 +6,8 @@ use beside::refusals::{number, text, Refusal};
 use common::Random;
 use source::cpim::{CpimError, CpimHeader, CpimMessage};
 
-const KIND: Kind = Kind { odd: 12, long: false, ends: true };
+/// Without the values of senders, so that the stored list stays.
+const KIND: Kind = Kind { odd: 12, long: false, ends: true, senders: false };
 
 fn put_number(script: &mut Vec<u8>, n: usize) {
     script.extend((n as u32).to_le_bytes());

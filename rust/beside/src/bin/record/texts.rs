@@ -3,7 +3,8 @@
 use beside::names::{text_of, Kind};
 use common::{value_text, Random};
 
-const KIND: Kind = Kind { odd: 40, long: false, ends: true };
+/// Without the values of senders, so that the stored list stays.
+const KIND: Kind = Kind { odd: 40, long: false, ends: true, senders: false };
 
 #[rustfmt::skip]
 const VALUES: [&str; 25] = [
