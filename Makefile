@@ -1,5 +1,5 @@
 # `make` proves everything and prints what is proved of the whole; `make show` is a first look; `make test` is the gate.
-.PHONY: prove show test proofs examples programs compare bench bench-reading format library gateway notice rt cc cargo
+.PHONY: prove show test proofs examples programs compare bench bench-reading format library gateway notice parseaddr rt cc cargo python3
 
 # What fails left of a pipe fails.
 SHELL := bash
@@ -10,8 +10,8 @@ SHELL := bash
 LOCKED := </dev/null flock .rt-lock
 RT := $(LOCKED) rt
 
-# What is compared is what was proved here.
-unexport CPIM_LIB_DIR
+# What is compared is what was proved here, and on the values that are stored here.
+unexport CPIM_LIB_DIR PARSEADDR_VALUES
 RUST := --offline --quiet --manifest-path rust/Cargo.toml
 
 prove: rt
@@ -68,12 +68,21 @@ compare: cargo library gateway notice
 	@cargo run --release $(RUST) --bin texts
 	@cargo run --release $(RUST) --bin gateway
 
-# The gateway's crate by itself: its build script, its tests and the examples in its comments; the C header, header lines by both readings, and bodies under LFLF.
+# The gateway's crate by itself: its build script, its tests and the examples in its comments; the C header, header lines by both readings, bodies under LFLF, and
+# addresses beside a stored list of what Python finds.
 gateway: cargo library
 	@.ci/build-test
-	@for tests in '-p cpim' '-p beside --test c_header --test second_reading --test lf_body'; do \
+	@for tests in '-p cpim' '-p beside --test c_header --test second_reading --test lf_body --test parseaddr'; do \
 	  out=$$(cargo test $(RUST) $$tests 2>&1) || { printf '%s\n' "$$out"; exit 1; }; \
 	done
+
+# Addresses beside what Python's email.utils.parseaddr finds in new values, by another seed each time. No part of the gate, which needs no Python.
+parseaddr: cargo library python3
+	@seed=$${SEED:-$$(date +%s%N)} count=$${COUNT:-100000} values=$$PWD/target/parseaddr.tsv; \
+	echo "parseaddr: $$count values, SEED=$$seed"; \
+	python3 rust/beside/parseaddr/values.py "$$seed" "$$count" >"$$values"; \
+	out=$$(PARSEADDR_VALUES=$$values cargo test $(RUST) -p beside --test parseaddr 2>&1) || { printf '%s\n' "$$out"; exit 1; }; \
+	echo "parseaddr: no difference"
 
 # A program in C on the header and the library, which the crate's build leaves in target/staticlib: what it prints is examples/notice.out.
 notice: cargo cc library
@@ -104,6 +113,9 @@ rt:
 
 cc:
 	@command -v cc >/dev/null || { echo "cc is not on the PATH: the example in C and the test of the programs need a C compiler"; exit 1; }
+
+python3:
+	@command -v python3 >/dev/null || { echo "python3 is not on the PATH: new values for parseaddr need Python"; exit 1; }
 
 cargo:
 	@command -v cargo >/dev/null || { echo "cargo is not on the PATH: the comparison with the source and the benchmarks need Rust"; exit 1; }
