@@ -1,5 +1,6 @@
-/* Reads a notice, prints who it is from, sets a header, writes it, and finds the body in what was written; then adds a header with a depot code for a
- * parameter and finds that in what was written, by the second reading: C on the functions of crates/cpim/cpim.h. `make compare` runs it. */
+/* Reads a notice, prints who it is from and the address in that, sets a header, writes it, and finds the body in what was written; then adds a header
+ * with a depot code for a parameter and finds that in what was written, by the second reading: C on the functions of crates/cpim/cpim.h. `make compare`
+ * runs it. */
 #include "cpim.h"
 
 #include <stdio.h>
@@ -7,7 +8,7 @@
 
 static const char notice[] =
     "Content-type: Message/CPIM\r\n\r\n"
-    "From: North depot <im:north@depots.example>\r\n"
+    "From: \"Lost < Found\" <im:lost@depot>\r\n"
     "DateTime: 2026-03-02T08:15:00Z\r\n\r\n"
     "Content-type: text/plain\r\n\r\n"
     "A black umbrella hangs in the sorting room.";
@@ -28,11 +29,20 @@ static void print_header(cpim_message_t m, const char *name) {
         printf("%s is: %.*s\n", name, (int)value.length, (const char *)head + value.start);
 }
 
+/* The place of an address is one in the value, which has its own place in the head store. */
+static void print_address(cpim_message_t m, const char *name) {
+    cpim_part_t value = cpim_get_header(m, head, sizeof head, TEXT(name));
+    cpim_part_t address = cpim_address(head + value.start, value.length);
+    if (address.found)
+        printf("its address: %.*s\n", (int)address.length, (const char *)head + value.start + address.start);
+}
+
 int main(void) {
     cpim_answer_t a = cpim_parse(TEXT(notice), head, sizeof head, body, sizeof body);
     if (a.number != 0)
         return refused("cpim_parse", a.number, a.carried);
     print_header(a.message, "From");
+    print_address(a.message, "From");
 
     a = cpim_set_header(a.message, head, sizeof head, TEXT("Subject"), TEXT("Black umbrella"));
     if (a.number != 0)
