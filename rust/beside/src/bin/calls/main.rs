@@ -29,7 +29,8 @@ fn add(sum: &mut Tally, t: &Tally) {
     sum.looked.add(&t.looked);
 }
 
-/// Every value of up to nine pieces, and of up to seven where 0xFF, which is in no character, is a piece too: a part of them.
+/// A part of these values: every one of up to nine pieces; of up to seven where 0xFF, which is in no character, is a piece too; and of up to five behind
+/// as many letters, in quotes or not, as bring them to every place of the blocks of 16 bytes in which signs and quotes are looked for.
 fn addresses(stores: &mut Stores, part: usize) {
     let mut look_up = |value: &[u8]| {
         if let Err([what, here, there]) = stores.tally.looked.address(value) {
@@ -39,6 +40,11 @@ fn addresses(stores: &mut Stores, part: usize) {
     };
     words(b"a\"\\<>", 9, (part, PARTS + 1), &mut look_up);
     words(b"a\"\\<>\xFF", 7, (part, PARTS + 1), &mut look_up);
+    words(b"a\"\\<>", 5, (part, PARTS + 1), |value| {
+        for (first, n) in (0..33).flat_map(|n| [(b'a', n), (b'"', n)]) {
+            look_up(&[&[first], &[b'a'; 33][..n], value].concat());
+        }
+    });
 }
 
 /// What a thread lends, and what it counted: in lists, and on what was damaged.
