@@ -9,8 +9,8 @@ use lib.Dec.{eqb, leb}
 use borrow.Author.Tests.{eqb-true, ne-eqb, leb-true}
 use Rattle.format.specs.Bytes.{Bytes, if_then_else_, all, any, has, upTo, past, quote, less-sign, greater-sign, backslash}
 use Rattle.format.specs.Characters.{wellFormed, isUtf8}
-use Rattle.format.specs.LookingUp.{ofHeld, closed, opens, behind, pastOpening, address}
-use Rattle.format.specs.Addresses.{Enclosed, nothing, byte, pair, Piece, string, other, Lead, empty, piece, Addressed, plainAddress, Addresses}
+use Rattle.format.specs.LookingUp.{ofHeld, closed, opens, quotingBehind, pastOpening, address}
+use Rattle.format.specs.Addresses.{Enclosed, no-bytes, byte, pair, LeadPiece, string, other, Lead, empty, piece, Addressed, plainAddress, Addresses}
 use Rattle.format.specs.declared.Quoting.{Quoting}
 use Rattle.format.specs.declared.Quoting.the-variants.{Outside, Inside, Covered}
 use Rattle.format.proofs.Lists.{eqb-sym, or-false-left, or-false-right, all-head, all-tail}
@@ -19,13 +19,13 @@ use Rattle.format.proofs.Splitting.Split.{has-at, upTo-at, upTo-past, u
 
 -- From the shape: pieces are passed over.
 enclosed-past : {s : Bytes} → Enclosed s → (t : Bytes) → pastOpening Inside (s ++ t) ≡ pastOpening Inside t
-unfolding pastOpening opens behind
-enclosed-past nothing t = refl
+unfolding pastOpening opens quotingBehind
+enclosed-past no-bytes t = refl
 enclosed-past (byte q k e) t = rw (q, k) (enclosed-past e t)
 enclosed-past (pair e) t = enclosed-past e t
 
-piece-past : {p : Bytes} → Piece p → (t : Bytes) → pastOpening Outside (p ++ t) ≡ pastOpening Outside t
-unfolding pastOpening opens behind
+piece-past : {p : Bytes} → LeadPiece p → (t : Bytes) → pastOpening Outside (p ++ t) ≡ pastOpening Outside t
+unfolding pastOpening opens quotingBehind
 piece-past (string {s} e) t = rw (append-assoc s (quote ∷ []) t) (enclosed-past e (quote ∷ t))
 piece-past (other q l) t = rw (l, q) refl
 
@@ -48,8 +48,8 @@ Before Inside v = Closes v
 Before Covered v = (b : ℕ) × (s : Bytes) × Closes s × (v ≡ b ∷ s)
 
 -- one more byte in front
-extend : (q : Quoting) (b : ℕ) (v : Bytes) → opens q b ≡ false → Before (behind q b) v → Before q (b ∷ v)
-unfolding opens behind
+extend : (q : Quoting) (b : ℕ) (v : Bytes) → opens q b ≡ false → Before (quotingBehind q b) v → Before q (b ∷ v)
+unfolding opens quotingBehind
 extend Outside b v o h = go (eqb b quote) refl h
   where
     go : (x : Bool) → eqb b quote ≡ x → Before (if x then Inside else Outside) v → Lead (b ∷ v)
@@ -58,7 +58,7 @@ extend Outside b v o h = go (eqb b quote) refl h
 extend Inside b v o h = go (eqb b backslash) refl h
   where
     plain : (x : Bool) → eqb b backslash ≡ false → eqb b quote ≡ x → Before (if x then Outside else Inside) v → Closes (b ∷ v)
-    plain true k e l = record { inner = []; lead = v; encloses = nothing; leads = l; shape = ap (λ (a : ℕ). a ∷ v) (eqb-true b quote e) }
+    plain true k e l = record { inner = []; lead = v; encloses = no-bytes; leads = l; shape = ap (λ (a : ℕ). a ∷ v) (eqb-true b quote e) }
     plain false k e c = record { inner = b ∷ c .inner; lead = c .lead; encloses = byte e k (c .encloses); leads = c .leads; shape = ap (λ (s : Bytes). b ∷ s) (c .shape) }
 
     go : (x : Bool) → eqb b backslash ≡ x → Before (if x then Covered else if eqb b quote then Outside else Inside) v → Closes (b ∷ v)
@@ -83,10 +83,10 @@ first Covered b s o = absurd (false≢true o)
 before : (q : Quoting) (v s : Bytes) → pastOpening q v ≡ some s → (l : Bytes) × Before q l × (v ≡ l ++ (less-sign ∷ s))
 unfolding pastOpening
 before q [] s e = absurd (Option·none-ne-some s e)
-before q (b ∷ v) s e = go (opens q b) refl e (before (behind q b) v s)
+before q (b ∷ v) s e = go (opens q b) refl e (before (quotingBehind q b) v s)
   where
-    go : (x : Bool) → opens q b ≡ x → (if x then some v else pastOpening (behind q b) v) ≡ some s
-        → (pastOpening (behind q b) v ≡ some s → (l : Bytes) × Before (behind q b) l × (v ≡ l ++ (less-sign ∷ s)))
+    go : (x : Bool) → opens q b ≡ x → (if x then some v else pastOpening (quotingBehind q b) v) ≡ some s
+        → (pastOpening (quotingBehind q b) v ≡ some s → (l : Bytes) × Before (quotingBehind q b) l × (v ≡ l ++ (less-sign ∷ s)))
         → (l : Bytes) × Before q l × (b ∷ v ≡ l ++ (less-sign ∷ s))
     go true o e ih = let f = first q b v o in ([], f .0, f .1 ∙ ap (λ (t : Bytes). less-sign ∷ t) (Option·some-injective v s e))
     go false o e ih = let (l, h, shape) = ih e in (b ∷ l, extend q b l o h, ap (λ (t : Bytes). b ∷ t) shape)
@@ -136,7 +136,7 @@ no-address v h = go (address v) refl
 -- a quote that is left unclosed
 unclosed-quote : (l s : Bytes) → Lead l → Enclosed s
     → (address (l ++ (quote ∷ s)) ≡ none) × (address (l ++ (quote ∷ (s ++ (backslash ∷ [])))) ≡ none)
-unfolding address pastOpening opens behind
+unfolding address pastOpening opens quotingBehind
 unclosed-quote l s t e = (
   rw (lead-past t (quote ∷ s), sym (append-nil s)) (rw (enclosed-past e []) refl),
   rw (lead-past t (quote ∷ (s ++ (backslash ∷ []))), enclosed-past e (backslash ∷ [])) refl,
@@ -146,7 +146,7 @@ unclosed-quote l s t e = (
 pub none-opens : (q : Quoting) (v : Bytes) → has less-sign v ≡ false → pastOpening q v ≡ none
 unfolding pastOpening opens any
 none-opens q [] h = refl
-none-opens q (b ∷ v) h = rw (other-byte q (or-false-left (eqb less-sign b) (has less-sign v) h)) (none-opens (behind q b) v (or-false-right (eqb less-sign b) (has less-sign v) h))
+none-opens q (b ∷ v) h = rw (other-byte q (or-false-left (eqb less-sign b) (has less-sign v) h)) (none-opens (quotingBehind q b) v (or-false-right (eqb less-sign b) (has less-sign v) h))
   where
     other-byte : (q : Quoting) → eqb less-sign b ≡ false → opens q b ≡ false
     other-byte Outside e = eqb-sym b less-sign ∙ e
@@ -155,7 +155,7 @@ none-opens q (b ∷ v) h = rw (other-byte q (or-false-left (eqb less-sign b) (ha
 
 -- where no quote stands before the first `<`, the first one of all opens
 pub first-opens : (v : Bytes) → has quote (upTo less-sign v) ≡ false → pastOpening Outside v ≡ (if has less-sign v then some (past less-sign v) else none)
-unfolding pastOpening opens behind any upTo past
+unfolding pastOpening opens quotingBehind any upTo past
 first-opens [] h = refl
 first-opens (b ∷ v) h = rw (eqb-sym b less-sign, eqb-sym b quote) (go (eqb less-sign b) h (first-opens v))
   where
@@ -175,19 +175,18 @@ old-answer v h = rw (first-opens v h) (go (has less-sign v))
     go true = refl
     go false = refl
 
--- bytes of 128 or more are no signs
-high-past : (g s : Bytes) → all (leb 128) g ≡ true → pastOpening Inside (g ++ s) ≡ pastOpening Inside s
-unfolding pastOpening opens behind
-high-past [] s h = refl
-high-past (b ∷ g) s h =
+-- bytes of 128 or more are neither quotes nor backslashes
+high-enclosed : (g s : Bytes) → all (leb 128) g ≡ true → Enclosed s → Enclosed (g ++ s)
+high-enclosed [] s h e = e
+high-enclosed (b ∷ g) s h e =
     let high = leb-true 128 b (all-head (leb 128) b g h) in
-    rw (ne-eqb b backslash (omega arith), ne-eqb b quote (omega arith)) (high-past g s (all-tail (leb 128) b g h))
+    byte (ne-eqb b quote (omega arith)) (ne-eqb b backslash (omega arith)) (high-enclosed g s (all-tail (leb 128) b g h) e)
 
-covered-character : (g s : Bytes) → wellFormed g ≡ true → pastOpening Inside (backslash ∷ (g ++ s)) ≡ pastOpening Inside s
-unfolding pastOpening opens behind wellFormed
-covered-character [] s h = absurd (false≢true h)
-covered-character (b ∷ []) s h = refl
-covered-character (b ∷ c ∷ g) s h = high-past (c ∷ g) s (all-tail (leb 128) b (c ∷ g) (whole-high b c g h))
+covered-character : (g s : Bytes) → wellFormed g ≡ true → Enclosed s → Enclosed (backslash ∷ (g ++ s))
+unfolding wellFormed
+covered-character [] s h e = absurd (false≢true h)
+covered-character (b ∷ []) s h e = pair e
+covered-character (b ∷ c ∷ g) s h e = pair (high-enclosed (c ∷ g) s (all-tail (leb 128) b (c ∷ g) (whole-high b c g h)) e)
 
 address-utf8 : (v a : Bytes) → isUtf8 v ≡ true → address v ≡ some a → isUtf8 a ≡ true
 address-utf8 v a u e =

@@ -1,5 +1,7 @@
 -- Document 02, T-02: which part of a value its address is, said by the shape of the value and not by a walk over its bytes, as `address` in
--- LookingUp.antt is. Proved as `addresses` in proofs/Addresses.antt. Assumes nothing.
+-- LookingUp.antt is. Laxer than RFC 3862, which has either words or one `String` before the `<`, and in a `String` no controls and few escapes:
+-- here words and quoted strings come in any order, any byte may stand between quotes, and a backslash there covers any. Proved as `addresses` in
+-- proofs/Addresses.antt. Assumes nothing.
 use Prim.Native.Nat.{ℕ}
 use mathlib.Core.Path.{_≡_}
 use mathlib.Core.Bool.{true, false}
@@ -9,25 +11,24 @@ use mathlib.Core.Option.{Option, none, some}
 use lib.Dec.{eqb}
 use Rattle.format.specs.Bytes.{Bytes, if_then_else_, has, upTo, past, quote, less-sign, greater-sign, backslash}
 use Rattle.format.specs.Characters.{wellFormed, isUtf8}
-use Rattle.format.specs.LookingUp.{closed, pastOpening, address}
-use Rattle.format.specs.declared.Quoting.the-variants.{Inside}
+use Rattle.format.specs.LookingUp.{closed, address}
 
--- What stands between the quotes of a quoted string (`String` in RFC 3862's grammar): bytes other than quote and backslash, and pairs of a
--- backslash and the byte that it covers.
+-- What stands between the quotes of a quoted string: bytes other than quote and backslash, and pairs of a backslash and the byte that it
+-- covers.
 pub data Enclosed : Bytes → Type 0 where
-  nothing : Enclosed []
+  no-bytes : Enclosed []
   byte : {b : ℕ} {s : Bytes} → eqb b quote ≡ false → eqb b backslash ≡ false → Enclosed s → Enclosed (b ∷ s)
   pair : {b : ℕ} {s : Bytes} → Enclosed s → Enclosed (backslash ∷ b ∷ s)
 
 -- A piece of what stands before the `<`: a quoted string, or a byte that neither begins one nor is a `<`.
-pub data Piece : Bytes → Type 0 where
-  string : {s : Bytes} → Enclosed s → Piece (quote ∷ (s ++ (quote ∷ [])))
-  other : {b : ℕ} → eqb b quote ≡ false → eqb b less-sign ≡ false → Piece (b ∷ [])
+pub data LeadPiece : Bytes → Type 0 where
+  string : {s : Bytes} → Enclosed s → LeadPiece (quote ∷ (s ++ (quote ∷ [])))
+  other : {b : ℕ} → eqb b quote ≡ false → eqb b less-sign ≡ false → LeadPiece (b ∷ [])
 
 -- What stands before the `<`: any number of pieces. None of them ends inside quotes.
 pub data Lead : Bytes → Type 0 where
   empty : Lead []
-  piece : {p s : Bytes} → Piece p → Lead s → Lead (p ++ s)
+  piece : {p s : Bytes} → LeadPiece p → Lead s → Lead (p ++ s)
 
 -- v is a lead, `<`, a, `>` and any rest, and a has no `>`
 pub record Addressed (v a : Bytes) : Type 0 where
@@ -51,5 +52,5 @@ pub record Addresses : Type 0 where
   -- Where no quote stands before the first `<`, document 01's answer stays.
   pub stays : (v : Bytes) → has quote (upTo less-sign v) ≡ false → address v ≡ plainAddress v
   -- Bytes and characters agree. A backslash inside quotes covers the whole character behind it, and the address in a UTF-8 text is UTF-8.
-  pub covers : (g s : Bytes) → wellFormed g ≡ true → pastOpening Inside (backslash ∷ (g ++ s)) ≡ pastOpening Inside s
+  pub covers : (g s : Bytes) → wellFormed g ≡ true → Enclosed s → Enclosed (backslash ∷ (g ++ s))
   pub utf8 : (v a : Bytes) → isUtf8 v ≡ true → address v ≡ some a → isUtf8 a ≡ true

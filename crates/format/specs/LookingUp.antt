@@ -87,23 +87,23 @@ bodyAsStr (some m) = isUtf8 (m .body)
 unfoldable pub closed : Bytes → Option Bytes
 closed s = if has greater-sign s then some (upTo greater-sign s) else none
 
--- a byte that stands so is a `<` outside quoted strings
+-- whether a byte, by where it stands, is a `<` outside quoted strings
 unfoldable pub opens : Quoting → ℕ → Bool
 opens Outside b = eqb b less-sign
 opens Inside b = false
 opens Covered b = false
 
 -- where the byte behind b stands: inside quotes a backslash covers it
-unfoldable pub behind : Quoting → ℕ → Quoting
-behind Outside b = if eqb b quote then Inside else Outside
-behind Inside b = if eqb b backslash then Covered else if eqb b quote then Outside else Inside
-behind Covered b = Inside
+unfoldable pub quotingBehind : Quoting → ℕ → Quoting
+quotingBehind Outside b = if eqb b quote then Inside else Outside
+quotingBehind Inside b = if eqb b backslash then Covered else if eqb b quote then Outside else Inside
+quotingBehind Covered b = Inside
 
--- what stands behind the first `<` outside a quoted string, in bytes whose first stands so; none where there is no such `<`, so where a quote
+-- what stands behind the first `<` outside a quoted string, the first byte standing as told; none where there is no such `<`, so where a quote
 -- is left unclosed
 unfoldable pub pastOpening : Quoting → Bytes → Option Bytes
 pastOpening q [] = none
-pastOpening q (b ∷ s) = if opens q b then some s else pastOpening (behind q b) s
+pastOpening q (b ∷ s) = if opens q b then some s else pastOpening (quotingBehind q b) s
 
 -- Address (T-02 of document 02): the part of a value between the first `<` outside a quoted string and the next `>`, or none.
 unfoldable pub address : Bytes → Option Bytes

@@ -32,7 +32,7 @@ rules =
 pub senders : Senders
 unfolding computing
 senders =
-    record { addressed = refl; emptyAddress = refl; noAddress = refl; coach = refl; emptyName = refl; several = refl; coveredQuote = refl; coveredBackslash = refl; bareBackslash = refl; unclosed = refl; unclosedAgain = refl; stray = refl; quoteBehind = refl; unescaped = (refl, refl); unescapedTwice = (refl, refl) }
+    record { addressed = refl; emptyAddress = refl; noAddress = refl; coach = refl; emptyName = refl; several = refl; coveredQuote = refl; coveredBackslash = refl; bareBackslash = refl; unclosed = refl; unclosedAgain = refl; stray = refl; quoteBehind = refl; escapedQuote = (refl, refl); escapedBackslash = (refl, refl); escapedName = (refl, refl) }
 
 long-text : (t : Bytes) (n : ℕ) → length t ≡ 20971521 → numbers (findBody t n) ≡ 1 carrying 20971521
 unfolding computing

@@ -160,9 +160,11 @@ pub record Senders : Type 0 where
   pub stray : address (ascii "5\" pipe <im:x>") ≡ none
   -- behind the `<` quotes are plain
   pub quoteBehind : address (ascii "<\"a>\"") ≡ some (ascii "\"a")
-  -- a covered quote on the wire is a plain one in the value that is held: with one of them there is no address, with two a `<` between them counts
-  pub unescaped : (readHeader (ascii "From: \"a\\\"b\" <im:x>") ≡ accepted (record { name = ascii "From"; value = ascii "\"a\"b\" <im:x>"; params = [] })) × (address (ascii "\"a\"b\" <im:x>") ≡ none)
-  pub unescapedTwice : (readHeader (ascii "From: \"a\\\"<b\\\"\" <im:x>") ≡ accepted (record { name = ascii "From"; value = ascii "\"a\"<b\"\" <im:x>"; params = [] })) × (address (ascii "\"a\"<b\"\" <im:x>") ≡ some (ascii "b\"\" <im:x"))
+  -- escapes of the text are read before: a quoted name that has one there is another name in the value that is held. It may have no address then,
+  -- or one that stood in the name
+  pub escapedQuote : (readHeader (ascii "From: \"a\\\"b\" <im:x>") ≡ accepted (record { name = ascii "From"; value = ascii "\"a\"b\" <im:x>"; params = [] })) × (address (ascii "\"a\"b\" <im:x>") ≡ none)
+  pub escapedBackslash : (readHeader (ascii "From: \"a\\\\\" <im:x>") ≡ accepted (record { name = ascii "From"; value = ascii "\"a\\\" <im:x>"; params = [] })) × (address (ascii "\"a\\\" <im:x>") ≡ none)
+  pub escapedName : (readHeader (ascii "From: \"a\\\" <im:b> \\\"\" <im:x>") ≡ accepted (record { name = ascii "From"; value = ascii "\"a\" <im:b> \"\" <im:x>"; params = [] })) × (address (ascii "\"a\" <im:b> \"\" <im:x>") ≡ some (ascii "im:b"))
 
 -- Looking up
 pub record Lookups : Type 0 where

@@ -10,7 +10,7 @@ use lib.ListN.{length, take, drop, getD, length-append, length-drop, drop-of-len
 use lib.Seq.{length-take-le, drop-cons, take-append-seam, drop-append-seam}
 use borrow.Author.Tests.{lt-ltb, le-ltb}
 use Rattle.format.specs.Bytes.{Bytes, has, upTo, past, quote, less-sign, greater-sign}
-use Rattle.format.specs.LookingUp.{ofHeld, counted, closed, opens, behind, pastOpening, address}
+use Rattle.format.specs.LookingUp.{ofHeld, counted, closed, opens, quotingBehind, pastOpening, address}
 use Rattle.format.specs.declared.Quoting.{Quoting}
 use Rattle.format.specs.declared.Quoting.the-variants.{Outside}
 use Rattle.format.proofs.Lists.{clash}
@@ -27,7 +27,7 @@ module _ (v : Bytes) (at : Quoting) (i : ℕ) (walked : pastOpening Outside v �
       let behind-it : i ≡ length v - (length (drop (i + 1) v) + 1) = omega (arith, length-drop (i + 1) v) in
       rw (walked, drop-cons v i 0 h, o, sym (add-one i)) behind-it
 
-  pub opens-later : i < length v → opens at (getD v i 0) ≡ false → pastOpening Outside v ≡ pastOpening (behind at (getD v i 0)) (drop (i + 1) v)
+  pub opens-later : i < length v → opens at (getD v i 0) ≡ false → pastOpening Outside v ≡ pastOpening (quotingBehind at (getD v i 0)) (drop (i + 1) v)
   unfolding pastOpening
   opens-later h o = rw (walked, drop-cons v i 0 h, o, add-one i) refl
 

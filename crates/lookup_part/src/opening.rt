@@ -3,10 +3,10 @@
 use format::Quoting;
 use octets::finding::find_byte;
 ghost use mathlib.Core.Path.{_≡_};
-ghost use Rattle.format.specs.LookingUp.{opens, behind};
+ghost use Rattle.format.specs.LookingUp.{opens, quotingBehind};
 ghost use Rattle.lookup_part.specs.AddressSpan.{openingPlace};
 
-// A byte that stands so is a `<` outside quoted strings.
+// Whether a byte, by where it stands, is a `<` outside quoted strings.
 fn opens(at: Quoting, b: u8) -> bool
     ensures { λ r. ⌜ r ≡ opens at b ⌝ }
 {
@@ -18,8 +18,8 @@ fn opens(at: Quoting, b: u8) -> bool
 }
 
 // Where the byte behind b stands: inside quotes a backslash covers it.
-fn behind(at: Quoting, b: u8) -> Quoting
-    ensures { λ r. ⌜ r ≡ behind at b ⌝ }
+fn quoting_behind(at: Quoting, b: u8) -> Quoting
+    ensures { λ r. ⌜ r ≡ quotingBehind at b ⌝ }
 {
     match at {
         Quoting::Outside => {
@@ -52,7 +52,7 @@ fn opening_plain(value: &[u8]) -> usize
         if opens(at, b) {
             return i;
         }
-        at = behind(at, b);
+        at = quoting_behind(at, b);
         i += 1;
     }
     i

@@ -31,7 +31,7 @@ loop-again c =
     let at-loop : tie.At-loop Inv-loop μ-loop = search in
     let v = the (tie.Start Inv-loop μ-loop) (search) .args .value .now in (
       omega arith,
-      rw (c .behind .ensures) (opens-later v (at-loop .loop .at) (at-loop .loop .i) (at-loop .loop .inv .1) (search needs) (sym (the (tie.After-opens Inv-loop μ-loop) (search) .opens .ensures) ∙ the (tie.Else1 Inv-loop μ-loop) (search) .if1 .left)),
+      rw (c .quoting-behind .ensures) (opens-later v (at-loop .loop .at) (at-loop .loop .i) (at-loop .loop .inv .1) (search needs) (sym (the (tie.After-opens Inv-loop μ-loop) (search) .opens .ensures) ∙ the (tie.Else1 Inv-loop μ-loop) (search) .if1 .left)),
     )
 
 returns-2 : tie.Need-returns-2 Inv-loop μ-loop
