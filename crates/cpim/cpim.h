@@ -267,7 +267,7 @@ size_t cpim_count_contents(cpim_message_t m, const uint8_t *head, size_t head_le
 
 /* The part of a value between its first < outside a quoted string and the next >, in value; the value may be any bytes. Inside quotes a backslash covers
  * the character after it. Quotes are looked for only before that <, and if one is left unclosed there is no address. <> is an empty part. A value is
- * taken as it is held, after unescaping. */
+ * taken as it is held, after unescaping: a quote that was escaped in the text opens or closes quotes then, so the address is no proof of the sender. */
 cpim_part_t cpim_address(const uint8_t *value, size_t value_len);
 
 /* Where all of them stand: a row of four numbers for each header, behind it those of its parameters, then for each content header. A row is where the

@@ -21,7 +21,8 @@ use crate::raw::{self, text};
 /// assert_eq!((address("Lost <>"), address("Lost <im:a")), (Some(""), None));
 /// ```
 ///
-/// It goes by the value as it is held, after a reading has taken the escapes out of it. What was an escaped quote in the text is a plain one by then:
+/// It goes by the value as it is held, after a reading has taken the escapes out of it. What was an escaped quote in the text is a plain one by then.
+/// So a name with such quotes can leave no address, or bring one of its own: what is found is no proof of who sent the notice.
 ///
 /// ```
 /// let text = r#"Content-type: Message/CPIM
@@ -33,6 +34,9 @@ use crate::raw::{self, text};
 /// Hi"#;
 /// let m = cpim::parse_cpim(text)?;
 /// assert_eq!((m.get_header("From"), m.address("From")), (Some(r#""a"b" <im:a>"#), None));
+///
+/// let m = cpim::parse_cpim(&text.replace("a\\\"b", "a\\\" <im:b> \\\""))?;
+/// assert_eq!((m.get_header("From"), m.address("From")), (Some(r#""a" <im:b> "" <im:a>"#), Some("im:b")));
 /// # Ok::<(), cpim::CpimError>(())
 /// ```
 ///

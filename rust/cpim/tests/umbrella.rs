@@ -203,6 +203,9 @@ fn a_coach_firms_notice() {
 #[test]
 fn a_quote_escaped_in_the_text() {
     check_sender(r#""a\"b" <im:x>"#, r#""a"b" <im:x>"#, None);
+    check_sender(r#""a\\" <im:x>"#, r#""a\" <im:x>"#, None);
+    // A name that brings an address of its own.
+    check_sender(r#""a\" <im:b> \"" <im:x>"#, r#""a" <im:b> "" <im:x>"#, Some("im:b"));
     check_sender(r#""a\\\"<b" <im:x>"#, r#""a\"<b" <im:x>"#, Some("im:x"));
     check_sender(r#"Lost \u003cim:x>"#, "Lost <im:x>", Some("im:x"));
 }
