@@ -41,27 +41,27 @@ record Closes (v : Bytes) : Type 0 where
   leads : Lead lead
   shape : v ≡ inner ++ (quote ∷ lead)
 
--- what may stand before the `<` where the first byte stands so
-abbrev Before : Quoting → Bytes → Type 0
-Before Outside v = Lead v
-Before Inside v = Closes v
-Before Covered v = (b : ℕ) × (s : Bytes) × Closes s × (v ≡ b ∷ s)
+-- what may stand before the `<`, by where its first byte stands
+abbrev LeadFrom : Quoting → Bytes → Type 0
+LeadFrom Outside v = Lead v
+LeadFrom Inside v = Closes v
+LeadFrom Covered v = (b : ℕ) × (s : Bytes) × Closes s × (v ≡ b ∷ s)
 
 -- one more byte in front
-extend : (q : Quoting) (b : ℕ) (v : Bytes) → opens q b ≡ false → Before (quotingBehind q b) v → Before q (b ∷ v)
+extend : (q : Quoting) (b : ℕ) (v : Bytes) → opens q b ≡ false → LeadFrom (quotingBehind q b) v → LeadFrom q (b ∷ v)
 unfolding opens quotingBehind
 extend Outside b v o h = go (eqb b quote) refl h
   where
-    go : (x : Bool) → eqb b quote ≡ x → Before (if x then Inside else Outside) v → Lead (b ∷ v)
+    go : (x : Bool) → eqb b quote ≡ x → LeadFrom (if x then Inside else Outside) v → Lead (b ∷ v)
     go true e c = rw (eqb-true b quote e, c .shape, sym (append-assoc (c .inner) (quote ∷ []) (c .lead))) (piece (string (c .encloses)) (c .leads))
     go false e l = piece (other e o) l
 extend Inside b v o h = go (eqb b backslash) refl h
   where
-    plain : (x : Bool) → eqb b backslash ≡ false → eqb b quote ≡ x → Before (if x then Outside else Inside) v → Closes (b ∷ v)
+    plain : (x : Bool) → eqb b backslash ≡ false → eqb b quote ≡ x → LeadFrom (if x then Outside else Inside) v → Closes (b ∷ v)
     plain true k e l = record { inner = []; lead = v; encloses = no-bytes; leads = l; shape = ap (λ (a : ℕ). a ∷ v) (eqb-true b quote e) }
     plain false k e c = record { inner = b ∷ c .inner; lead = c .lead; encloses = byte e k (c .encloses); leads = c .leads; shape = ap (λ (s : Bytes). b ∷ s) (c .shape) }
 
-    go : (x : Bool) → eqb b backslash ≡ x → Before (if x then Covered else if eqb b quote then Outside else Inside) v → Closes (b ∷ v)
+    go : (x : Bool) → eqb b backslash ≡ x → LeadFrom (if x then Covered else if eqb b quote then Outside else Inside) v → Closes (b ∷ v)
     go true e (a, s, c, r) =
         record {
           inner = backslash ∷ a ∷ c .inner;
@@ -74,25 +74,25 @@ extend Inside b v o h = go (eqb b backslash) refl h
 extend Covered b v o h = (b, v, h, refl)
 
 -- only a `<` outside quoted strings opens
-first : (q : Quoting) (b : ℕ) (s : Bytes) → opens q b ≡ true → Before q [] × (b ∷ s ≡ less-sign ∷ s)
+first : (q : Quoting) (b : ℕ) (s : Bytes) → opens q b ≡ true → LeadFrom q [] × (b ∷ s ≡ less-sign ∷ s)
 unfolding opens
 first Outside b s o = (empty, ap (λ (a : ℕ). a ∷ s) (eqb-true b less-sign o))
 first Inside b s o = absurd (false≢true o)
 first Covered b s o = absurd (false≢true o)
 
-before : (q : Quoting) (v s : Bytes) → pastOpening q v ≡ some s → (l : Bytes) × Before q l × (v ≡ l ++ (less-sign ∷ s))
+lead-from : (q : Quoting) (v s : Bytes) → pastOpening q v ≡ some s → (l : Bytes) × LeadFrom q l × (v ≡ l ++ (less-sign ∷ s))
 unfolding pastOpening
-before q [] s e = absurd (Option·none-ne-some s e)
-before q (b ∷ v) s e = go (opens q b) refl e (before (quotingBehind q b) v s)
+lead-from q [] s e = absurd (Option·none-ne-some s e)
+lead-from q (b ∷ v) s e = go (opens q b) refl e (lead-from (quotingBehind q b) v s)
   where
     go : (x : Bool) → opens q b ≡ x → (if x then some v else pastOpening (quotingBehind q b) v) ≡ some s
-        → (pastOpening (quotingBehind q b) v ≡ some s → (l : Bytes) × Before (quotingBehind q b) l × (v ≡ l ++ (less-sign ∷ s)))
-        → (l : Bytes) × Before q l × (b ∷ v ≡ l ++ (less-sign ∷ s))
+        → (pastOpening (quotingBehind q b) v ≡ some s → (l : Bytes) × LeadFrom (quotingBehind q b) l × (v ≡ l ++ (less-sign ∷ s)))
+        → (l : Bytes) × LeadFrom q l × (b ∷ v ≡ l ++ (less-sign ∷ s))
     go true o e ih = let f = first q b v o in ([], f .0, f .1 ∙ ap (λ (t : Bytes). less-sign ∷ t) (Option·some-injective v s e))
     go false o e ih = let (l, h, shape) = ih e in (b ∷ l, extend q b l o h, ap (λ (t : Bytes). b ∷ t) shape)
 
 pub opening-shape : (v s : Bytes) → pastOpening Outside v ≡ some s → (l : Bytes) × Lead l × (v ≡ l ++ (less-sign ∷ s))
-opening-shape v s e = before Outside v s e
+opening-shape v s e = lead-from Outside v s e
 
 -- up to the next `>`
 closed-at : (a rest : Bytes) → has greater-sign a ≡ false → closed (a ++ (greater-sign ∷ rest)) ≡ some a
@@ -122,7 +122,7 @@ addressed v a e = go (pastOpening Outside v) refl e
     go : (o : Option Bytes) → pastOpening Outside v ≡ o → ofHeld o closed ≡ some a → Addressed v a
     go none p e = absurd (Option·none-ne-some a e)
     go (some s) p e =
-        let (l, leads, shape) = before Outside v s p in
+        let (l, leads, shape) = lead-from Outside v s p in
         let (ends, clear) = closed-shape s a e in
         record { lead = l; rest = past greater-sign s; leads = leads; shape = shape ∙ ap (λ (t : Bytes). l ++ (less-sign ∷ t)) ends; clear = clear }
 

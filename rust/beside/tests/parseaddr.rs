@@ -1,6 +1,10 @@
 //! Values with names before their addresses. Python's email.utils.parseaddr, which knows nothing of this project, says what the address is in those of
 //! parseaddr/values.tsv (parseaddr/values.py says how they were made), or of another such file that the variable PARSEADDR_VALUES names.
 
+#[path = "../../cpim/tests/values/addresses.rs"]
+mod addresses;
+
+use addresses::ADDRESSES;
 use beside::address::{address, address_of};
 use std::env;
 use std::fs::read_to_string;
@@ -30,21 +34,7 @@ fn values_that_parseaddr_reads() {
 /// What the request's words make of values that are not well formed, and of bytes that are no characters.
 #[test]
 fn values_of_the_request() {
-    for (value, found) in [
-        (r#""Lost < Found" <im:lost@depot>"#, Some("im:lost@depot")),
-        (r#""a\"<b" <c>"#, Some("c")),
-        (r#""a\\" <b>"#, Some("b")),
-        (r#""a <b>"#, None),
-        (r#""a" b" <c>"#, None),
-        (r#"<"a>""#, Some("\"a")),
-        (r#"\"a <b>"#, None),
-        (r#""" <b>"#, Some("b")),
-        (r#"5" pipe <im:x>"#, None),
-        (r#""a"b" <im:x>"#, None),
-        ("Lost <>", Some("")),
-        ("Lost <im:x", None),
-        ("im:x>", None),
-    ] {
+    for (value, found) in ADDRESSES {
         assert_eq!(address_of(value), found, "{value}");
     }
     assert_eq!(address(b"\"\xFF<\\\xFE\" \xFD <\xFC\xFB>\xFA"), Some((10, 2)));

@@ -1,5 +1,9 @@
 //! The notice of a found umbrella: the depot is a parameter of a header.
 
+#[path = "values/addresses.rs"]
+mod addresses;
+
+use addresses::ADDRESSES;
 use cpim::lent::{self, Header, Message};
 use cpim::{parse_cpim, parse_cpim_rfc, CpimError, CpimHeader, CpimMessage, Loss, Refusal};
 
@@ -141,28 +145,7 @@ fn lent_stores() {
 /// What is between the first `<` outside a quoted string and the next `>`.
 #[test]
 fn addresses() {
-    for (value, found) in [
-        (r#""Lost < Found" <im:lost@depot>"#, Some("im:lost@depot")),
-        (r#""a\"<b" <c>"#, Some("c")),
-        (r#""a\\" <b>"#, Some("b")),
-        (r#""a <b>"#, None),
-        (r#""a" b" <c>"#, None),
-        (r#"<"a>""#, Some("\"a")),
-        (r#"\"a <b>"#, None),
-        (r#""" <b>"#, Some("b")),
-        (r#"5" pipe <im:x>"#, None),
-        (r#""Fund < Büro" Zürich \ <im:büro@zürich>"#, Some("im:büro@zürich")),
-        (r#""\é\€<" 🚌 <🧤>"#, Some("🧤")),
-        ("North depot <im:north@depots.example>", Some("im:north@depots.example")),
-        ("> <>", Some("")),
-        ("<<a>>", Some("<a")),
-        (r#"<a> "b"#, Some("a")),
-        ("<im:a", None),
-        (r#"<"a"#, None),
-        ("im:a>", None),
-        (r#""<a>\"#, None),
-        ("", None),
-    ] {
+    for (value, found) in ADDRESSES {
         assert_eq!((cpim::address(value), lent::address(value)), (found, found), "{value}");
     }
 }

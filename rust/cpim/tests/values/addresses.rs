@@ -1,0 +1,25 @@
+//! Values and their addresses, as document 02's T-02 has them.
+
+pub const ADDRESSES: [(&str, Option<&str>); 21] = [
+    (r#""Lost < Found" <im:lost@depot>"#, Some("im:lost@depot")),
+    (r#""a\"<b" <c>"#, Some("c")),
+    (r#""a\\" <b>"#, Some("b")),
+    (r#""a <b>"#, None),
+    (r#""a" b" <c>"#, None),
+    (r#"<"a>""#, Some("\"a")),
+    (r#"\"a <b>"#, None),
+    (r#""" <b>"#, Some("b")),
+    (r#"5" pipe <im:x>"#, None),
+    (r#""a"b" <im:x>"#, None),
+    (r#""Fund < Büro" Zürich \ <im:büro@zürich>"#, Some("im:büro@zürich")),
+    (r#""\é\€<" 🚌 <🧤>"#, Some("🧤")),
+    ("North depot <im:north@depots.example>", Some("im:north@depots.example")),
+    ("> <>", Some("")),
+    ("<<a>>", Some("<a")),
+    (r#"<a> "b"#, Some("a")),
+    ("<im:a", None),
+    (r#"<"a"#, None),
+    ("im:a>", None),
+    (r#""<a>\"#, None),
+    ("", None),
+];
