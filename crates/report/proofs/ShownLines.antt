@@ -7,8 +7,8 @@ use lib.ListN.{length}
 use Rattle.format.specs.Bytes.{Bytes, ascii, pasted, equals, lf}
 use Rattle.format.specs.Escaping.{escape}
 use Rattle.format.specs.Showing.{decimal, shown, showNumbers}
-use Rattle.report.specs.Put.{Put}
-use Rattle.report.proofs.Puts.{puts, puts-then, puts-as}
+use Rattle.output.specs.Put.{Put}
+use Rattle.output.proofs.Puts.{puts, puts-then, puts-as}
 use Rattle.report.specs.ShownLines.{messageLines}
 
 -- a line: label, `=`, a text of at most n bytes, LF

@@ -17,8 +17,8 @@ use Rattle.format.specs.LookingUp.{nth, mapped}
 use Rattle.format.specs.declared.Numbers.{Numbers}
 use Rattle.roundtrip.specs.Loss.{lossHeld}
 use Rattle.roundtrip.specs.declared.Loss.{Loss}
-use Rattle.report.specs.Put.{Put}
-use Rattle.report.proofs.Puts.{Puts, puts, puts-nothing, puts-then, puts-as}
+use Rattle.output.specs.Put.{Put}
+use Rattle.output.proofs.Puts.{Puts, puts, puts-nothing, puts-then, puts-as}
 use Rattle.report.proofs.Read.{is-refused, is-read, in-both}
 use Rattle.report.specs.Words.{reason, refusedWords, entryWords}
 use Rattle.report.specs.Telling.{ofHeader, ofContent, subject, lossWords, tell, wholecpim}

@@ -12,8 +12,8 @@ use Rattle.format.specs.Escaping.{escape}
 use Rattle.format.specs.Showing.{decimal}
 use Rattle.format.proofs.Lists.{clash}
 use Rattle.lookup_part.specs.Found.{Found}
-use Rattle.report.specs.Put.{Put}
-use Rattle.report.proofs.Puts.{Puts, puts, puts-nothing, puts-then, puts-as}
+use Rattle.output.specs.Put.{Put}
+use Rattle.output.proofs.Puts.{Puts, puts, puts-nothing, puts-then, puts-as}
 use Rattle.report.specs.Words.{condition, carriedWords, refusedWords, entryWords}
 
 pub none-carried : (at n : ℕ) (d : Bytes) → n ≡ 0 → Put at 23 (carriedWords n) d d at

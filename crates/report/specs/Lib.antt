@@ -1,4 +1,3 @@
 pub mod ShownLines
-pub mod Put
 pub mod Telling
 pub mod Words

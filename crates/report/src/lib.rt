@@ -1,18 +1,17 @@
 // What the programs print, over the bytes of an output: here what `showcpim` prints for its input (document 01, "Looking up";
-// crates/format/specs/Showing.antt), in `telling` what `wholecpim` does, with `words` and `decimals` for both.
+// crates/format/specs/Showing.antt), in `telling` what `wholecpim` does, with `words` for both.
 
-mod decimals;
 pub mod telling;
 mod words;
 
-use crate::decimals::put_decimal;
 use escape::escape_header_value;
 use format::CpimMessage;
 use lookup::accessors::content_type;
 use lookup::counts::count_params;
+use output::decimals::put_decimal;
+use output::put;
+use output::put_byte;
 use read::parse_cpim;
-use write_parts::lines::put;
-use write_parts::lines::put_byte;
 ghost use mathlib.Core.Path.{_≡_};
 ghost use mathlib.Core.Bool.{true};
 ghost use Prim.Native.Nat.{_+_, _≤_};
@@ -24,7 +23,7 @@ ghost use Rattle.format.specs.Layout.{Holds};
 ghost use Rattle.format.specs.Lending.{headLent};
 ghost use Rattle.format.specs.Showing.{decimal, shown, showNumbers, showMessage, showcpim};
 ghost use Rattle.store_check.specs.Holding.{messageHolds};
-ghost use Rattle.report.specs.Put.{Put};
+ghost use Rattle.output.specs.Put.{Put};
 ghost use Rattle.report.specs.ShownLines.{messageLines};
 
 // A line of a label and a number.

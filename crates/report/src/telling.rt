@@ -8,10 +8,10 @@ use crate::words::put_refusal;
 use format::CpimMessage;
 use lookup::content_headers::content_name;
 use lookup_nth::nth_name;
+use output::put;
+use output::put_byte;
 use read::parse_cpim;
 use roundtrip::loss_of;
-use write_parts::lines::put;
-use write_parts::lines::put_byte;
 ghost use mathlib.Core.Path.{_≡_};
 ghost use mathlib.Core.Bool.{true};
 ghost use Prim.Native.Nat.{_+_, _≤_};
@@ -22,7 +22,7 @@ ghost use Rattle.format.specs.Lending.{headLent};
 ghost use Rattle.format.specs.LookingUp.{nth, mapped};
 ghost use Rattle.store_check.specs.Holding.{messageHolds};
 ghost use Rattle.lookup_part.specs.Found.{Found};
-ghost use Rattle.report.specs.Put.{Put};
+ghost use Rattle.output.specs.Put.{Put};
 ghost use Rattle.report.specs.Telling.{ofHeader, ofContent, subject, lossWords, wholecpim};
 
 // The clause speaks of one header.

@@ -1,11 +1,11 @@
 // Words for what document 01 says by number (specs/Words.antt), over the bytes of an output: a refusal, an entry, why a message does not
 // come back whole. The words stand in the code as lines of one text each.
 
-use crate::decimals::put_decimal;
 use escape::escape_header_value;
+use output::decimals::put_decimal;
+use output::put;
 use sections::fields::past;
 use sections::fields::up_to;
-use write_parts::lines::put;
 ghost use mathlib.Core.Path.{_≡_};
 ghost use mathlib.Core.Bool.{true};
 ghost use mathlib.Core.Option.{Option};
@@ -13,7 +13,7 @@ ghost use Prim.Native.Nat.{_+_, _≤_, _<_};
 ghost use lib.ListN.{length};
 ghost use Rattle.format.specs.Bytes.{Bytes};
 ghost use Rattle.lookup_part.specs.Found.{Found};
-ghost use Rattle.report.specs.Put.{Put};
+ghost use Rattle.output.specs.Put.{Put};
 ghost use Rattle.report.specs.Words.{condition, reason, carriedWords, refusedWords, entryWords, lineAt};
 
 // The line of a number, counting from 0, of lines that each end in LF; nothing where there is none.

@@ -4,8 +4,8 @@
 pub mod lines;
 pub mod measure;
 
-use crate::lines::put;
 use crate::lines::put_content_lines;
+use output::put;
 ghost use mathlib.Core.Path.{_≡_};
 ghost use mathlib.Core.Bool.{true};
 ghost use mathlib.Core.List.{_++_};

@@ -2,7 +2,8 @@
 // from a place on and gives the place behind what it wrote.
 
 use escape::values::put_value_text;
-use octets::copy_at;
+use output::put;
+use output::put_byte;
 use store_entries::entry_len;
 use store_entries::name_at;
 use store_entries::param_count;
@@ -10,33 +11,13 @@ use store_entries::tail_at;
 use store_entries::value_at;
 ghost use mathlib.Core.Path.{_≡_};
 ghost use mathlib.Core.Bool.{true};
-ghost use mathlib.Core.List.{[], _∷_};
-ghost use Prim.Native.Nat.{_+_, _≤_, _<_};
+ghost use Prim.Native.Nat.{_+_, _≤_};
 ghost use lib.ListN.{length, drop};
 ghost use Rattle.format.specs.Bytes.{pasted, texts};
 ghost use Rattle.format.specs.Writing.{paramText, headerLine, contentLine, ended};
 ghost use Rattle.store_entries.specs.Stored.{shaped, storedIn, shapedAll};
 ghost use Rattle.store_entry_check.specs.EntriesHold.{tailHolds, headersHold};
 ghost use Rattle.store_entry_check.specs.FromBytes.{entryFrom, entriesFrom, headerFrom, headersFrom};
-
-// A byte, and bytes.
-pub fn put_byte(out: &mut [u8], at: usize, b: u8) -> usize
-    requires { ⌜ at < length (now out) ⌝ }
-    ensures place { λ r. ⌜ r ≡ at + 1 ⌝ }
-    ensures bytes { λ _. ⌜ now (out .exit) ≡ pasted at (b ∷ []) (now (out .entry)) ⌝ }
-{
-    out[at] = b;
-    at + 1
-}
-
-pub fn put(out: &mut [u8], at: usize, s: &[u8]) -> usize
-    requires { ⌜ at + length (now s) ≤ length (now out) ⌝ }
-    ensures place { λ r. ⌜ r ≡ at + length (now (s .entry)) ⌝ }
-    ensures bytes { λ _. ⌜ now (out .exit) ≡ pasted at (now (s .entry)) (now (out .entry)) ⌝ }
-{
-    copy_at(out, at, s);
-    at + s.len()
-}
 
 // The parameter at a place of the store: `;` name `=` value.
 fn put_param_text(out: &mut [u8], at: usize, s: &[u8], from: usize) -> usize

@@ -2,7 +2,7 @@
 use native.Mathlib.Omega.{arith}
 use borrow.Author.Needs.{needs}
 use Rattle.format.proofs.Typed.{the}
-use Rattle.report.proofs.Puts.{puts-as}
+use Rattle.output.proofs.Puts.{puts-as}
 use Rattle.report.proofs.ShownCases.{kind-short, held-lines}
 use Rattle.report.proofs.put_held_lines.Statement.{statement}
 use Rattle.report.proofs.put_held_lines.Tie as tie

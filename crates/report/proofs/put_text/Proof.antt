@@ -6,7 +6,7 @@ use borrow.Author.Needs.{needs}
 use Rattle.format.specs.Escaping.{escape}
 use Rattle.format.proofs.Escaping.Escape.{escape-length}
 use Rattle.format.proofs.Typed.{the}
-use Rattle.report.proofs.Puts.{puts}
+use Rattle.output.proofs.Puts.{puts}
 use Rattle.report.proofs.ShownLines.{line-put}
 use Rattle.report.proofs.put_text.Statement.{statement}
 use Rattle.report.proofs.put_text.Tie as tie

@@ -2,7 +2,7 @@
 use native.Mathlib.Omega.{arith}
 use borrow.Author.Needs.{needs}
 use Rattle.format.proofs.Typed.{the}
-use Rattle.report.proofs.Puts.{puts-then, puts-as}
+use Rattle.output.proofs.Puts.{puts-then, puts-as}
 use Rattle.report.proofs.Read.{in-store, read-holds}
 use Rattle.report.proofs.ShownCases.{too-long, shown-refused, shown-accepted}
 use Rattle.report.proofs.show.Statement.{statement}

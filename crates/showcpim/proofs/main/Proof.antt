@@ -2,7 +2,7 @@
 use mathlib.Core.Path.{sym}
 use lib.Seq.{length-take-le}
 use borrow.Author.Needs.{needs}
-use Rattle.report.proofs.Puts.{put-within}
+use Rattle.output.proofs.Puts.{put-within}
 use Rattle.showcpim.proofs.main.Statement.{statement}
 use Rattle.showcpim.proofs.main.Tie as tie
 

@@ -2,7 +2,7 @@
 use mathlib.Core.Path.{sym}
 use lib.Seq.{length-take-le}
 use borrow.Author.Needs.{needs}
-use Rattle.report.proofs.Puts.{put-within}
+use Rattle.output.proofs.Puts.{put-within}
 use Rattle.wholecpim.proofs.main.Statement.{statement}
 use Rattle.wholecpim.proofs.main.Tie as tie
 

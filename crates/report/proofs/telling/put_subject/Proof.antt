@@ -6,7 +6,7 @@ use borrow.Author.Needs.{needs}
 use Rattle.format.specs.Layout.{message}
 use Rattle.format.specs.LookingUp.{getContent}
 use Rattle.format.proofs.Typed.{the}
-use Rattle.report.proofs.Puts.{puts-as}
+use Rattle.output.proofs.Puts.{puts-as}
 use Rattle.report.specs.Telling.{subject}
 use Rattle.report.proofs.EntryNames.{header-near, content-near}
 use Rattle.report.proofs.TellingCases.{of-header, of-content, of-none}

@@ -6,7 +6,7 @@ use native.Mathlib.Omega.{arith}
 use lib.ListN.{length, length-append}
 use Rattle.format.specs.Bytes.{Bytes, pasted}
 use Rattle.octets.proofs.Paste.{pasted-nil, pasted-pasted, length-pasted}
-use Rattle.report.specs.Put.{Put}
+use Rattle.output.specs.Put.{Put}
 
 -- what a function that puts a text ensures
 abbrev pub Puts : ℕ → Bytes → Bytes → Bytes → ℕ → Type 0

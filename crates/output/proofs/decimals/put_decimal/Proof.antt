@@ -1,4 +1,4 @@
--- `report::decimals::put_decimal` meets its contract: the part of the room that `spell` gives is the digits. Assumes nothing.
+-- `output::decimals::put_decimal` meets its contract: the part of the room that `spell` gives is the digits. Assumes nothing.
 use Prim.Native.Nat.{_+_}
 use mathlib.Core.Path.{refl, sym, ap, _∙_}
 use native.Mathlib.Omega.{arith}
@@ -6,10 +6,10 @@ use borrow.Author.Needs.{needs}
 use Rattle.format.specs.Bytes.{Bytes, pasted}
 use Rattle.format.specs.Showing.{decimal}
 use Rattle.format.proofs.Typed.{the}
-use Rattle.report.proofs.DecimalDigits.{spelt-length, spelt-part, decimal-length}
-use Rattle.report.proofs.Puts.{puts}
-use Rattle.report.proofs.decimals.put_decimal.Statement.{statement}
-use Rattle.report.proofs.decimals.put_decimal.Tie as tie
+use Rattle.output.proofs.DecimalDigits.{spelt-length, spelt-part, decimal-length}
+use Rattle.output.proofs.Puts.{puts}
+use Rattle.output.proofs.decimals.put_decimal.Statement.{statement}
+use Rattle.output.proofs.decimals.put_decimal.Tie as tie
 
 spell-requires : tie.Need-spell-requires
 spell-requires c κs = refl

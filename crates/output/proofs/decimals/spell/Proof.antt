@@ -1,11 +1,11 @@
--- `report::decimals::spell` meets its contract. The invariant is `Spelt`. Assumes nothing.
+-- `output::decimals::spell` meets its contract. The invariant is `Spelt`. Assumes nothing.
 use native.Mathlib.Omega.{arith}
 use lib.ListN.{length-set}
 use borrow.Author.Needs.{needs}
 use Rattle.format.proofs.Typed.{the}
-use Rattle.report.proofs.DecimalDigits.{Spelt, spelt-start, spelt-more, spelt-last}
-use Rattle.report.proofs.decimals.spell.Statement.{statement}
-use Rattle.report.proofs.decimals.spell.Tie as tie
+use Rattle.output.proofs.DecimalDigits.{Spelt, spelt-start, spelt-more, spelt-last}
+use Rattle.output.proofs.decimals.spell.Statement.{statement}
+use Rattle.output.proofs.decimals.spell.Tie as tie
 
 abbrev Inv-loop : tie.InvT-loop
 Inv-loop n digits₀ at₀ rest₀ digits at rest = Spelt n digits at rest

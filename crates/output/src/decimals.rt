@@ -5,7 +5,7 @@ ghost use mathlib.Core.Path.{_≡_};
 ghost use Prim.Native.Nat.{_+_, _≤_};
 ghost use lib.ListN.{length, drop};
 ghost use Rattle.format.specs.Showing.{decimal};
-ghost use Rattle.report.specs.Put.{Put};
+ghost use Rattle.output.specs.Put.{Put};
 
 // The digits at the end of room for the longest number; gives where they start.
 fn spell(n: u64, digits: &mut [u8]) -> usize

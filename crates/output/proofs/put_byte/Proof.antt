@@ -1,9 +1,9 @@
--- `write_parts::lines::put_byte` meets its contract. Assumes nothing.
+-- `output::put_byte` meets its contract. Assumes nothing.
 use mathlib.Core.Path.{refl}
 use borrow.Author.Needs.{needs}
 use Rattle.octets.proofs.Paste.{pasted-one}
-use Rattle.write_parts.proofs.lines.put_byte.Statement.{statement}
-use Rattle.write_parts.proofs.lines.put_byte.Tie as tie
+use Rattle.output.proofs.put_byte.Statement.{statement}
+use Rattle.output.proofs.put_byte.Tie as tie
 
 returns : tie.Need-returns
 returns c = (refl, pasted-one (c .args .at) (c .args .b) (c .args .out .now) (c .pre))

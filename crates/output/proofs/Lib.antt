@@ -1,0 +1,2 @@
+mod DecimalDigits
+pub mod Puts
