@@ -90,6 +90,12 @@ module _ {A : Type 0} where
   texts-append f [] ys = refl
   texts-append f (x ∷ xs) ys = rw (texts-append f xs ys) (sym (append-assoc (f x) (texts f xs) (texts f ys)))
 
+  -- equal numbers have equal sums
+  pub total-same : (f g : A → ℕ) → ((x : A) → f x ≡ g x) → (xs : List A) → total f xs ≡ total g xs
+  unfolding total
+  total-same f g h [] = refl
+  total-same f g h (x ∷ xs) = omega (arith, h x, total-same f g h xs)
+
   pub total-append : (f : A → ℕ) (xs ys : List A) → total f (xs ++ ys) ≡ total f xs + total f ys
   unfolding total
   total-append f [] ys = omega arith

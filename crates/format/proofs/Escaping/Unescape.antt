@@ -125,7 +125,7 @@ module _ (r : Manner) where
   unescape-skip (suc k) [] = refl
   unescape-skip (suc k) (b ∷ s) = unescape-skip k s
 
-  four-ascii : (a b c d n : ℕ) → fourDigits r a b c d ≡ some n → (a < 128) × (b < 128) × (c < 128) × (d < 128)
+  pub four-ascii : (a b c d n : ℕ) → fourDigits r a b c d ≡ some n → (a < 128) × (b < 128) × (c < 128) × (d < 128)
   unfolding fourDigits
   four-ascii a b c d n h =
       let x = shifted-some _ (digitValue d) n h in

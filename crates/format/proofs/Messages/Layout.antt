@@ -15,16 +15,11 @@ use Rattle.format.specs.Validators.{contentType}
 use Rattle.format.specs.Message.{Entry, LoneHeader, Header, Message, needEntry, needAlone, needHeader, need, valid, validAlone}
 use Rattle.format.specs.Layout.{fixed, entryBytes, layoutEntry, layoutHeader, layoutAlone, layout, headerOf, Lent, BodyAt, Holds, HoldsAlone}
 use Rattle.format.specs.Lending.{overLent, laidIn}
-use Rattle.format.proofs.Lists.{length-texts}
+use Rattle.format.proofs.Lists.{total-same, length-texts}
 use Rattle.format.proofs.Steps.{then-passes, atMost-passes}
 use Rattle.format.proofs.Messages.Parts.{message-parts}
 
 -- Lengths of what is laid out.
-
-total-same : {A : Type 0} (f g : A → ℕ) → ((x : A) → f x ≡ g x) → (xs : List A) → total f xs ≡ total g xs
-unfolding total
-total-same f g h [] = refl
-total-same f g h (x ∷ xs) = omega (arith, h x, total-same f g h xs)
 
 entryBytes-length : (n v : Bytes) (k : ℕ) (tail : Bytes) → length (entryBytes n v k tail) ≡ 16 + (length n + (length v + length tail))
 unfolding entryBytes fixed

@@ -1,0 +1,6 @@
+mod Strings
+mod Listings
+mod FirstBytes
+mod FourDigits
+mod Counts
+mod CountLines

@@ -1,0 +1,3 @@
+pub mod Strings
+pub mod Counts
+pub mod CountLines
