@@ -1,5 +1,5 @@
 # `make` proves everything and prints what is proved of the whole; `make show` is a first look; `make test` is the gate.
-.PHONY: prove show test proofs examples programs compare bench bench-reading format library gateway notice parseaddr rt cc cargo python3
+.PHONY: prove show counts test proofs examples programs compare bench bench-reading format library gateway notice parseaddr rt cc cargo python3
 
 # What fails left of a pipe fails.
 SHELL := bash
@@ -25,12 +25,18 @@ prove: rt
 	@echo
 	@sed -n '/^pub record SecondReading/,$$p' crates/format/specs/SecondReading.antt
 
-# A first look: the programs, proved with all that they rest on, then run on a notice.
+# A first look: the programs that read a notice, proved with all that they rest on, then run on one.
 show: rt
 	@$(RT) check showcpim wholecpim
 	@echo
 	@target/bin/showcpim <examples/umbrella.cpim
 	@target/bin/wholecpim <examples/umbrella.cpim
+
+# How many strings unescaping accepts and refuses, by length: the program, proved with all that it rests on, then run.
+counts: rt
+	@$(RT) check countcpim
+	@echo
+	@target/bin/countcpim
 
 # What needs the Rattle toolchain (and, last, a C compiler), then what needs Rust too. The last line is rt's own once more: 'N passed, 0 failed'.
 test: proofs
@@ -49,21 +55,25 @@ proofs: rt
 	@.ci/refused
 	@$(MAKE) --no-print-directory programs
 
-# The programs on the notices of examples/, held to what stands beside each.
+# The programs on the notices of examples/, held to what stands beside each, and countcpim, which reads nothing.
 examples: rt
-	@out=$$($(RT) check showcpim wholecpim) || { printf '%s\n' "$$out"; exit 1; }
+	@out=$$($(RT) check showcpim wholecpim countcpim) || { printf '%s\n' "$$out"; exit 1; }
 	@for notice in examples/*.cpim; do \
 		target/bin/showcpim <"$$notice" | cmp - "$${notice%.cpim}.show" || exit 1; \
 		target/bin/wholecpim <"$$notice" | cmp - "$${notice%.cpim}.whole" || exit 1; \
-	done; echo "examples: the programs print what stands beside each notice"
+	done
+	@target/bin/countcpim | cmp - crates/countcpim/stdout
+	@echo "examples: the programs print what stands beside each notice, and countcpim its ten lines"
 
 # The programs on inputs that are slow, late, long or cannot be read.
 programs: examples cc
 	@.ci/programs-test
 
-# The leaves beside Rust's standard library and the source; lists of calls, and texts read and written, beside the source; the gateway's crate.
+# The leaves beside Rust's standard library and the source; how many strings unescaping accepts, by the source and by an automaton; lists of calls, and
+# texts read and written, beside the source; the gateway's crate.
 compare: cargo library gateway notice
 	@cargo run --release $(RUST) --bin compare
+	@cargo run --release $(RUST) --bin counts
 	@cargo run --release $(RUST) --bin calls
 	@cargo run --release $(RUST) --bin texts
 	@cargo run --release $(RUST) --bin gateway
