@@ -1,8 +1,8 @@
 -- The four characters behind `\u` pass in 231,352 ways: the first two as a pair, a digit or the plus and then a digit, but no D followed by 8
 -- to F, which begins a surrogate, in 478 ways, and each of the others as one of 22 digits. Assumes nothing.
-use Prim.Native.Nat.{ℕ, _+_, _-_, _*_, _<_, _≤_}
+use Prim.Native.Nat.{ℕ, _+_, _*_, _<_, _≤_}
 use mathlib.Core.Path.{_≡_, refl, sym, _∙_}
-use mathlib.Core.Bool.{Bool, true, false, not, _&&_}
+use mathlib.Core.Bool.{Bool, true, false, not, _&&_, and-true, and-false}
 use mathlib.Core.Logic.{⊎-elim}
 use mathlib.Core.List.{[], _∷_, _++_}
 use mathlib.Core.Option.{Option, none, some}
@@ -10,30 +10,23 @@ use native.Mathlib.Omega.{arith}
 use lib.Dec.{leb, ltb, eqb}
 use lib.ListN.{length, take, drop}
 use borrow.Author.Tests.{eqb-true, eqb-false, leb-true, leb-false, ltb-true, ltb-false, le-leb, lt-leb, lt-ltb}
-use Rattle.format.specs.Bytes.{Bytes, ascii, if_then_else_, all, total, plus}
+use Rattle.format.specs.Bytes.{Bytes, ascii, if_then_else_, all, total}
 use Rattle.format.specs.Characters.{isScalar, encoding}
 use Rattle.format.specs.Escaping.{digitValue, shifted, firstDigit, fourDigits, Escape, scalarEscape, longEscape, escapeAt, unescapeFrom}
 use Rattle.format.specs.declared.Manner.the-variants.{Source}
-use Rattle.format.proofs.Lists.{bcase, and-left, and-right, clash}
-use Rattle.format.proofs.Escaping.Unescape.{four-ascii}
+use Rattle.format.proofs.Lists.{bcase, and-left, clash}
+use Rattle.format.proofs.Characters.Shapes.{scalar-low, scalar-high}
+use Rattle.format.proofs.Escaping.Unescape.{Below, digit-small, first-small, four-ascii}
 use Rattle.counting.specs.Strings.{numbersBelow, prefixed, strings, isString, howMany, stringCount}
 use Rattle.counting.specs.Counts.{isAnswered, ways}
 use Rattle.counting.proofs.Strings.{count-zero, count-same, count-both}
-use Rattle.counting.proofs.FirstBytes.{isSome, accepts, answered-accepts, unicode, ofByte, four, unicode-first, unicode-next}
+use Rattle.counting.proofs.FirstBytes.{isSome, unescapes, answered-accepts, behindU, ofByte, four, u-first, u-next}
 
 -- What of the values decides.
 abbrev pairOf : Option ℕ → Option ℕ → Bool
 pairOf none o = false
 pairOf (some x) none = false
 pairOf (some x) (some y) = not (eqb x 13 && leb 8 y)
-
-low : (n : ℕ) → n ≤ 55295 → isScalar n ≡ true
-unfolding isScalar
-low n h = rw (le-leb 0 n (omega arith), le-leb n 55295 h) refl
-
-high : (n : ℕ) → 57344 ≤ n → n ≤ 1114111 → isScalar n ≡ true
-unfolding isScalar
-high n h k = rw (lt-leb n 55295 (omega arith), le-leb 0 n (omega arith), le-leb 57344 n h, le-leb n 1114111 k) refl
 
 surrogate : (n : ℕ) → 55296 ≤ n → n ≤ 57343 → isScalar n ≡ false
 unfolding isScalar
@@ -45,54 +38,22 @@ scalar-pair x y z w p q r s = by (((x * 16 + y) * 16 + z) * 16 + w) (eqb x 13) (
   where
     by : (n : ℕ) (e l : Bool) → n ≡ ((x * 16 + y) * 16 + z) * 16 + w → eqb x 13 ≡ e → leb 8 y ≡ l → isScalar n ≡ not (e && l)
     by n true true f g h = surrogate n (omega (arith, eqb-true x 13 g, leb-true 8 y h)) (omega (arith, eqb-true x 13 g, leb-true 8 y h))
-    by n true false f g h = low n (omega (arith, eqb-true x 13 g, leb-false 8 y h))
+    by n true false f g h = scalar-low n (omega (arith, eqb-true x 13 g, leb-false 8 y h))
     by n false l f g h =
-        ⊎-elim (λ u. low n (omega (arith, ltb-true x 13 u)))
-        (λ u. high n (omega (arith, ltb-false x 13 u, eqb-false x 13 g)) (omega arith)) (bcase (ltb x 13))
+        ⊎-elim (λ u. scalar-low n (omega (arith, ltb-true x 13 u)))
+        (λ u. scalar-high n (omega (arith, ltb-false x 13 u, eqb-false x 13 g)) (omega arith)) (bcase (ltb x 13))
 
--- a digit's value is below 16
-abbrev Small : Option ℕ → Type 0
-Small none = Unit {0}
-Small (some v) = v < 16
-
-digit-small : (c : ℕ) → Small (digitValue c)
-unfolding digitValue
-digit-small c = by (leb 48 c && leb c 57) (leb 97 c && leb c 102) (leb 65 c && leb c 70) refl refl refl
-  where
-    by : (p q r : Bool) → (leb 48 c && leb c 57) ≡ p → (leb 97 c && leb c 102) ≡ q → (leb 65 c && leb c 70) ≡ r
-        → Small (if p then some (c - 48) else if q then some (c - 87) else if r then some (c - 55) else none)
-    by true q r e f g = omega (arith, leb-true c 57 (and-right (leb 48 c) (leb c 57) e))
-    by false true r e f g = omega (arith, leb-true c 102 (and-right (leb 97 c) (leb c 102) f))
-    by false false true e f g = omega (arith, leb-true c 70 (and-right (leb 65 c) (leb c 70) g))
-    by false false false e f g = tt
-
-first-small : (a : ℕ) → Small (firstDigit Source a)
-unfolding firstDigit
-first-small a = by (eqb a plus)
-  where
-    by : (b : Bool) → Small (if b then some 0 else digitValue a)
-    by true = omega arith
-    by false = digit-small a
-
-and-false : (b : Bool) → false ≡ (b && false)
-and-false true = refl
-and-false false = refl
-
-and-true : (b : Bool) → b ≡ (b && true)
-and-true true = refl
-and-true false = refl
-
-by-values : (x y z w : Option ℕ) → Small x → Small y → Small z → Small w
+by-values : (x y z w : Option ℕ) → Below 16 x → Below 16 y → Below 16 z → Below 16 w
     → isSome (scalarEscape (shifted (shifted (shifted x y) z) w)) ≡ (pairOf x y && (isSome z && isSome w))
 unfolding scalarEscape
 by-values none y z w p q r s = refl
 by-values (some x) none z w p q r s = refl
-by-values (some x) (some y) none w p q r s = and-false (pairOf (some x) (some y))
-by-values (some x) (some y) (some z) none p q r s = and-false (pairOf (some x) (some y))
+by-values (some x) (some y) none w p q r s = sym (and-false (pairOf (some x) (some y)))
+by-values (some x) (some y) (some z) none p q r s = sym (and-false (pairOf (some x) (some y)))
 by-values (some x) (some y) (some z) (some w) p q r s =
     if-some (isScalar (((x * 16 + y) * 16 + z) * 16 + w)) (record { stands = encoding (((x * 16 + y) * 16 + z) * 16 + w); takes = 5 })
-    ∙ scalar-pair x y z w p q r s
-    ∙ and-true (pairOf (some x) (some y))
+    ∙ scalar-pair x y z w (p x refl) (q y refl) (r z refl) (s w refl)
+    ∙ sym (and-true (pairOf (some x) (some y)))
   where
     if-some : (b : Bool) (e : Escape) → isSome (if b then some e else none) ≡ b
     if-some true e = refl
@@ -102,53 +63,53 @@ by-values (some x) (some y) (some z) (some w) p q r s =
 isHex : ℕ → Bool
 isHex c = isSome (digitValue c)
 
-pair : Bytes → Bool
-pair [] = false
-pair (a ∷ []) = false
-pair (a ∷ b ∷ s) = pairOf (firstDigit Source a) (digitValue b)
+isPair : Bytes → Bool
+isPair [] = false
+isPair (a ∷ []) = false
+isPair (a ∷ b ∷ s) = pairOf (firstDigit Source a) (digitValue b)
 
 abbrev twoHex : Bytes → Bool
 twoHex s = ofByte isHex (take 1 s) && ofByte isHex (drop 1 s)
 
-four-parts : (s : Bytes) → length s ≡ 4 → four s ≡ (pair (take 2 s) && twoHex (drop 2 s))
-unfolding longEscape fourDigits pair isHex
+four-parts : (s : Bytes) → length s ≡ 4 → four s ≡ (isPair (take 2 s) && twoHex (drop 2 s))
+unfolding longEscape fourDigits isPair isHex
 four-parts [] e = absurd (omega arith)
 four-parts (a ∷ []) e = absurd (omega arith)
 four-parts (a ∷ b ∷ []) e = absurd (omega arith)
 four-parts (a ∷ b ∷ c ∷ []) e = absurd (omega arith)
 four-parts (a ∷ b ∷ c ∷ d ∷ s) e =
-    by-values (firstDigit Source a) (digitValue b) (digitValue c) (digitValue d) (first-small a) (digit-small b) (digit-small c) (digit-small d)
+    by-values (firstDigit Source a) (digitValue b) (digitValue c) (digitValue d) (first-small Source a) (digit-small b) (digit-small c) (digit-small d)
 
 hex-ways : stringCount (ofByte isHex) 1 ≡ 22
 unfolding howMany strings prefixed numbersBelow total isHex digitValue
 hex-ways = refl
 
-pair-ways : stringCount pair 2 ≡ 478
-unfolding howMany strings prefixed numbersBelow total pair firstDigit digitValue
+pair-ways : stringCount isPair 2 ≡ 478
+unfolding howMany strings prefixed numbersBelow total isPair firstDigit digitValue
 pair-ways = refl
 
 pub four-ways : stringCount four 4 ≡ 231352
 four-ways =
-    count-same 4 four (λ s. pair (take 2 s) && twoHex (drop 2 s)) four-parts
-    ∙ count-both 2 2 4 refl pair twoHex
+    count-same 4 four (λ s. isPair (take 2 s) && twoHex (drop 2 s)) four-parts
+    ∙ count-both 2 2 4 refl isPair twoHex
     ∙ rw (pair-ways, count-both 1 1 2 refl (ofByte isHex) (ofByte isHex), hex-ways) refl
 
 -- Behind `\u`.
-behind-u : (s : Bytes) → isAnswered 0 (ascii "\\u" ++ s) ≡ unicode s
+behind-u : (s : Bytes) → isAnswered 0 (ascii "\\u" ++ s) ≡ behindU s
 unfolding unescapeFrom escapeAt
 behind-u s = answered-accepts (ascii "\\u" ++ s)
 
 pub ways-are : ways ≡ 231352
 unfolding ways unescapeFrom
 ways-are =
-    count-same 4 (λ s. isAnswered 0 (ascii "\\u" ++ s)) unicode (λ s e. behind-u s)
-    ∙ unicode-next 0
-    ∙ rw (four-ways, count-zero accepts) refl
+    count-same 4 (λ s. isAnswered 0 (ascii "\\u" ++ s)) behindU (λ s e. behind-u s)
+    ∙ u-next 0
+    ∙ rw (four-ways, count-zero unescapes) refl
 
 -- four bytes that pass are ASCII
 pub four-string : (s : Bytes) → length s ≡ 4 → isAnswered 0 (ascii "\\u" ++ s) ≡ true → isString 4 s ≡ true
 unfolding scalarEscape isString all longEscape
-four-string s e h = among s e (and-left (four (take 4 s)) (accepts (drop 4 s)) (sym (behind-u s ∙ unicode-first s) ∙ h))
+four-string s e h = among s e (and-left (four (take 4 s)) (unescapes (drop 4 s)) (sym (behind-u s ∙ u-first s) ∙ h))
   where
     of : (a b c d : ℕ) (o : Option ℕ) → fourDigits Source a b c d ≡ o → isSome (scalarEscape o) ≡ true → isString 4 (a ∷ b ∷ c ∷ d ∷ []) ≡ true
     of a b c d none f t = clash t refl

@@ -12,7 +12,7 @@ use lib.ListN.{length, take, drop, length-append, length-map}
 use borrow.Author.Tests.{ltb-true, ltb-false, eqb-true, eqb-false, ne-eqb, lt-ltb, le-ltb}
 use Rattle.format.specs.Bytes.{Bytes, all, total, same}
 use Rattle.format.proofs.Lists.{bcase, total-same, total-append}
-use Rattle.counting.specs.Strings.{numbersBelow, prefixed, strings, isString, one, howMany, stringCount}
+use Rattle.counting.specs.Strings.{numbersBelow, prefixed, strings, isString, oneIf, howMany, stringCount}
 
 -- Sums.
 module _ {A : Type 0} where
@@ -45,15 +45,15 @@ total-prefixed f (b ∷ bs) ss =
 -- by the first byte
 pub count-first : (p : Bytes → Bool) (n : ℕ) → stringCount p (suc n) ≡ total (λ b. stringCount (λ s. p (b ∷ s)) n) (numbersBelow 128)
 unfolding howMany strings
-count-first p n = total-prefixed (λ s. one (p s)) (numbersBelow 128) (strings n)
+count-first p n = total-prefixed (λ s. oneIf (p s)) (numbersBelow 128) (strings n)
 
-pub count-zero : (p : Bytes → Bool) → stringCount p 0 ≡ one (p [])
+pub count-zero : (p : Bytes → Bool) → stringCount p 0 ≡ oneIf (p [])
 unfolding howMany strings total
 count-zero p = omega arith
 
 -- tests that agree on the strings of a length
 pub count-same : (n : ℕ) (p q : Bytes → Bool) → ((s : Bytes) → length s ≡ n → p s ≡ q s) → stringCount p n ≡ stringCount q n
-count-same zero p q h = count-zero p ∙ ap one (h [] refl) ∙ sym (count-zero q)
+count-same zero p q h = count-zero p ∙ ap oneIf (h [] refl) ∙ sym (count-zero q)
 count-same (suc n) p q h =
     count-first p n
     ∙ total-same (λ b. stringCount (λ s. p (b ∷ s)) n) (λ b. stringCount (λ s. q (b ∷ s)) n)
@@ -69,13 +69,13 @@ count-none n p h = count-same n p (λ s. false) h ∙ never (strings n)
     never (s ∷ ss) = omega (arith, never ss)
 
 -- a test that passes where one of two others does
-pub count-either : (n : ℕ) (p q r : Bytes → Bool) → ((s : Bytes) → one (r s) ≡ one (p s) + one (q s)) → stringCount r n ≡ stringCount p n + stringCount q n
+pub count-either : (n : ℕ) (p q r : Bytes → Bool) → ((s : Bytes) → oneIf (r s) ≡ oneIf (p s) + oneIf (q s)) → stringCount r n ≡ stringCount p n + stringCount q n
 unfolding howMany
 count-either n p q r h =
-    total-same (λ s. one (r s)) (λ s. one (p s) + one (q s)) h (strings n) ∙ total-plus (λ s. one (p s)) (λ s. one (q s)) (strings n)
+    total-same (λ s. oneIf (r s)) (λ s. oneIf (p s) + oneIf (q s)) h (strings n) ∙ total-plus (λ s. oneIf (p s)) (λ s. oneIf (q s)) (strings n)
 
 -- a test that does not look at the string beside one that does
-count-and : (x : Bool) (q : Bytes → Bool) (n : ℕ) → stringCount (λ s. x && q s) n ≡ one x * stringCount q n
+count-and : (x : Bool) (q : Bytes → Bool) (n : ℕ) → stringCount (λ s. x && q s) n ≡ oneIf x * stringCount q n
 count-and true q n = sym (one-mul (stringCount q n))
 count-and false q n = count-none n (λ s. false) (λ s e. refl) ∙ sym (zero-mul (stringCount q n))
 
@@ -107,33 +107,33 @@ unfolding strings
 strings-length zero = refl
 strings-length (suc n) = prefixed-length (numbersBelow 128) (strings n) ∙ rw (bytes-length 128, strings-length n) (sym (pow-succ' 128 n))
 
-pub count-all : (p q : Bytes → Bool) (n : ℕ) → ((s : Bytes) → one (p s) + one (q s) ≡ 1) → stringCount p n + stringCount q n ≡ 128 ^ n
+pub count-all : (p q : Bytes → Bool) (n : ℕ) → ((s : Bytes) → oneIf (p s) + oneIf (q s) ≡ 1) → stringCount p n + stringCount q n ≡ 128 ^ n
 unfolding howMany
 count-all p q n h =
-    sym (total-plus (λ s. one (p s)) (λ s. one (q s)) (strings n))
-    ∙ total-same (λ s. one (p s) + one (q s)) (λ s. 1) h (strings n)
+    sym (total-plus (λ s. oneIf (p s)) (λ s. oneIf (q s)) (strings n))
+    ∙ total-same (λ s. oneIf (p s) + oneIf (q s)) (λ s. 1) h (strings n)
     ∙ total-ones (strings n)
     ∙ strings-length n
 
 -- Each string of n ASCII bytes stands in the list once.
 
 -- a number is among those below n once, where it is below n
-below-once : (c n : ℕ) → total (λ b. one (eqb c b)) (numbersBelow n) ≡ one (ltb c n)
+below-once : (c n : ℕ) → total (λ b. oneIf (eqb c b)) (numbersBelow n) ≡ oneIf (ltb c n)
 unfolding numbersBelow total
 below-once c zero = rw (le-ltb c 0 (omega arith)) refl
 below-once c (suc n) =
-    total-append (λ b. one (eqb c b)) (numbersBelow n) (n ∷ []) ∙ rw (below-once c n) (⊎-elim lower (λ f. ⊎-elim (here f) (above f) (bcase (eqb c n))) (bcase (ltb c n)))
+    total-append (λ b. oneIf (eqb c b)) (numbersBelow n) (n ∷ []) ∙ rw (below-once c n) (⊎-elim lower (λ f. ⊎-elim (here f) (above f) (bcase (eqb c n))) (bcase (ltb c n)))
   where
-    lower : ltb c n ≡ true → one (ltb c n) + (one (eqb c n) + 0) ≡ one (ltb c (suc n))
+    lower : ltb c n ≡ true → oneIf (ltb c n) + (oneIf (eqb c n) + 0) ≡ oneIf (ltb c (suc n))
     lower t = rw (t, ne-eqb c n (λ e. omega (arith, ltb-true c n t)), lt-ltb c (suc n) (omega (arith, ltb-true c n t))) refl
 
-    here : ltb c n ≡ false → eqb c n ≡ true → one (ltb c n) + (one (eqb c n) + 0) ≡ one (ltb c (suc n))
+    here : ltb c n ≡ false → eqb c n ≡ true → oneIf (ltb c n) + (oneIf (eqb c n) + 0) ≡ oneIf (ltb c (suc n))
     here f t = rw (f, t, lt-ltb c (suc n) (omega (arith, eqb-true c n t))) refl
 
-    above : ltb c n ≡ false → eqb c n ≡ false → one (ltb c n) + (one (eqb c n) + 0) ≡ one (ltb c (suc n))
+    above : ltb c n ≡ false → eqb c n ≡ false → oneIf (ltb c n) + (oneIf (eqb c n) + 0) ≡ oneIf (ltb c (suc n))
     above f d = rw (f, d, le-ltb c (suc n) (omega (arith, ltb-false c n f, eqb-false c n d))) refl
 
-pub count-once : (n : ℕ) (s : Bytes) → stringCount (same s) n ≡ one (isString n s)
+pub count-once : (n : ℕ) (s : Bytes) → stringCount (same s) n ≡ oneIf (isString n s)
 unfolding isString all same
 count-once zero [] = count-zero (same [])
 count-once zero (c ∷ s) = count-zero (same (c ∷ s)) ∙ rw (eqb·suc-zero (length s)) refl
@@ -144,13 +144,13 @@ count-once (suc n) [] = count-none (suc n) (same []) (λ t e. empty t e) ∙ rw 
     empty (b ∷ t) e = refl
 count-once (suc n) (c ∷ s) =
     count-first (same (c ∷ s)) n
-    ∙ total-same (λ b. stringCount (λ t. eqb c b && same s t) n) (λ b. one (eqb c b) * stringCount (same s) n) (λ b. count-and (eqb c b) (same s) n) (numbersBelow 128)
-    ∙ total-times (λ b. one (eqb c b)) (stringCount (same s) n) (numbersBelow 128)
+    ∙ total-same (λ b. stringCount (λ t. eqb c b && same s t) n) (λ b. oneIf (eqb c b) * stringCount (same s) n) (λ b. count-and (eqb c b) (same s) n) (numbersBelow 128)
+    ∙ total-times (λ b. oneIf (eqb c b)) (stringCount (same s) n) (numbersBelow 128)
     ∙ rw (below-once c 128, count-once n s, eqb·suc-suc (length s) n) (product (ltb c 128) (eqb (length s) n) (all (λ b. ltb b 128) s))
   where
-    product : (x y z : Bool) → one x * one (y && z) ≡ one (y && (x && z))
+    product : (x y z : Bool) → oneIf x * oneIf (y && z) ≡ oneIf (y && (x && z))
     product true true true = refl
     product true true false = refl
     product true false z = refl
-    product false true z = zero-mul (one z)
+    product false true z = zero-mul (oneIf z)
     product false false z = refl

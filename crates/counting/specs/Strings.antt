@@ -27,13 +27,13 @@ unfoldable pub isString : ℕ → Bytes → Bool
 isString n s = eqb (length s) n && all (λ b. ltb b 128) s
 
 -- 1 for a test that passes
-abbrev pub one : Bool → ℕ
-one true = 1
-one false = 0
+abbrev pub oneIf : Bool → ℕ
+oneIf true = 1
+oneIf false = 0
 
 -- how many strings of a list pass a test
 unfoldable pub howMany : (Bytes → Bool) → List Bytes → ℕ
-howMany p ss = total (λ s. one (p s)) ss
+howMany p ss = total (λ s. oneIf (p s)) ss
 
 -- how many strings of n ASCII bytes pass a test
 abbrev pub stringCount : (Bytes → Bool) → ℕ → ℕ

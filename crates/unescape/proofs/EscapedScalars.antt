@@ -12,8 +12,9 @@ use Rattle.format.specs.declared.Manner.{Manner}
 use Rattle.format.proofs.Lists.{bcase}
 use Rattle.format.proofs.Characters.Table.{within-below, within-above}
 use Rattle.format.proofs.Characters.Shapes.{scalar-low, scalar-high}
+use Rattle.format.proofs.Escaping.Unescape.{Below}
 use Rattle.unescape.specs.Values.{orElse}
-use Rattle.unescape.proofs.Hex.{Below, four-small}
+use Rattle.unescape.proofs.Hex.{four-small}
 use Rattle.unescape.specs.Backslash.{scalarOf}
 
 -- the number behind `\u` as an escape

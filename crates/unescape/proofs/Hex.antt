@@ -1,17 +1,14 @@
 -- The number behind `\u`: the laws of its digits, with 16 and 65536 for what is no digit and no number. Assumes nothing.
-use Prim.Native.Nat.{ℕ, _+_, _-_, _*_, _≤_, _<_}
+use Prim.Native.Nat.{ℕ, _+_, _-_, _*_, _≤_}
 use mathlib.Core.Path.{_≡_, refl, sym, _∙_}
 use mathlib.Core.Bool.{false}
 use mathlib.Core.Option.{Option, none, some}
 use native.Mathlib.Omega.{arith}
-use lib.Dec.{eqb}
-use Rattle.format.specs.Bytes.{plus}
 use Rattle.format.specs.Characters.{_to_, within}
 use Rattle.format.specs.Escaping.{digitValue, shifted, firstDigit, fourDigits}
 use Rattle.format.specs.declared.Manner.{Manner}
-use Rattle.format.specs.declared.Manner.the-variants.{Source, Rfc}
-use Rattle.format.proofs.Characters.Table.{within-high, within-intro, within-below, within-above}
-use Rattle.format.proofs.Escaping.Unescape.{branch, nothing}
+use Rattle.format.proofs.Characters.Table.{within-intro, within-below, within-above}
+use Rattle.format.proofs.Escaping.Unescape.{nothing, Below, digit-small, first-small}
 use Rattle.unescape.specs.Values.{orElse}
 
 pub digit-decimal : (c : ℕ) → 48 ≤ c → c ≤ 57 → digitValue c ≡ some (c - 48)
@@ -29,23 +26,6 @@ digit-upper c h k = rw (within-above c (48 to 57) (omega arith), within-below c 
 pub digit-none : (c : ℕ) → within c (48 to 57) ≡ false → within c (97 to 102) ≡ false → within c (65 to 70) ≡ false → digitValue c ≡ none
 unfolding digitValue
 digit-none c p q r = rw (p, q, r) refl
-
--- a number, where there is one, is below k
-abbrev pub Below : ℕ → Option ℕ → Type 0
-Below k o = (n : ℕ) → o ≡ some n → n < k
-
-digit-small : (c : ℕ) → Below 16 (digitValue c)
-unfolding digitValue
-digit-small c n h =
-    branch (within c (48 to 57)) _ _ n (λ t e. let z : c - 48 ≡ n = cc in omega (arith, within-high c (48 to 57) t))
-    (branch (within c (97 to 102)) _ _ n (λ t e. let z : c - 87 ≡ n = cc in omega (arith, within-high c (97 to 102) t))
-    (branch (within c (65 to 70)) _ _ n (λ t e. let z : c - 55 ≡ n = cc in omega (arith, within-high c (65 to 70) t)) (nothing n)))
-    h
-
-first-small : (r : Manner) (c : ℕ) → Below 16 (firstDigit r c)
-unfolding firstDigit
-first-small Rfc c n h = digit-small c n h
-first-small Source c n h = branch (eqb c plus) _ _ n (λ t e. let z : 0 ≡ n = cc in omega arith) (digit-small c n) h
 
 shifted-small : (k : ℕ) (o d : Option ℕ) → Below k o → Below 16 d → Below (k * 16) (shifted o d)
 shifted-small k none d f g n h = nothing n h

@@ -6,12 +6,12 @@ use native.Mathlib.Omega.{arith}
 use borrow.Author.Needs.{needs}
 use Rattle.format.proofs.Typed.{the}
 use Rattle.counting.proofs.Counts.{ten-rows}
-use Rattle.counting.proofs.CountLines.{none, row, Counted, counted-none, counted-next, counted-all}
+use Rattle.counting.proofs.CountLines.{no-row, count-row, CountedLines, counted-none, counted-next, counted-all}
 use Rattle.counting.proofs.put_count_lines.Statement.{statement}
 use Rattle.counting.proofs.put_count_lines.Tie as tie
 
 abbrev Inv-loop : tie.InvT-loop
-Inv-loop out₀ rows to₀ n₀ out to n = Counted rows out₀ out to n
+Inv-loop out₀ rows to₀ n₀ out to n = CountedLines rows out₀ out to n
 
 abbrev μ-loop : tie.MeasureT-loop
 μ-loop out₀ rows to₀ n₀ out to n = 10 - n
@@ -19,7 +19,7 @@ abbrev μ-loop : tie.MeasureT-loop
 loop-holds : tie.Need-loop-holds Inv-loop μ-loop
 loop-holds c =
     counted-none (c .args .out .now) refl
-    (row (ten-rows .row0) (row (ten-rows .row1) (row (ten-rows .row2) (row (ten-rows .row3) (row (ten-rows .row4) (row (ten-rows .row5) (row (ten-rows .row6) (row (ten-rows .row7) (row (ten-rows .row8) (row (ten-rows .row9) none))))))))))
+    (count-row (ten-rows .row0) (count-row (ten-rows .row1) (count-row (ten-rows .row2) (count-row (ten-rows .row3) (count-row (ten-rows .row4) (count-row (ten-rows .row5) (count-row (ten-rows .row6) (count-row (ten-rows .row7) (count-row (ten-rows .row8) (count-row (ten-rows .row9) no-row))))))))))
 
 put-count-line-requires : tie.Need-put-count-line-requires Inv-loop μ-loop
 put-count-line-requires c κs = omega (arith, the (tie.At-loop Inv-loop μ-loop) (search) .loop .inv .within, the (tie.At-loop Inv-loop μ-loop) (search) .loop .inv .lines .within)

@@ -11,11 +11,12 @@ use lib.Dec.{leb, ltb, eqb}
 use lib.ListN.{length, take, drop, length-append, length-drop, take-append-drop}
 use borrow.Author.Tests.{eqb-true, leb-true, ne-eqb, not-true}
 use Rattle.format.specs.Bytes.{Bytes, if_then_else_, all, backslash, plus}
-use Rattle.format.specs.Characters.{wellFormed, isUtf8, trailing, encoding, isScalar}
+use Rattle.format.specs.Characters.{_to_, within, wellFormed, isUtf8, trailing, encoding, isScalar}
 use Rattle.format.specs.Escaping.{digitValue, shifted, firstDigit, fourDigits, Escape, scalarEscape, longEscape, oneByte, apostropheEscape, shortEscape, escapeAt, takesOf, inFront, escaped, unescapeFrom, unescapeBy}
 use Rattle.format.specs.declared.Manner.{Manner}
 use Rattle.format.specs.declared.Manner.the-variants.{Source, Rfc}
 use Rattle.format.proofs.Lists.{bcase, and-left, and-right, all-head, all-tail, all-map}
+use Rattle.format.proofs.Characters.Table.{within-high}
 use Rattle.format.proofs.Characters.Chars.{chars-cons, utf8-whole, utf8-append, utf8-ascii, ascii-whole, whole-high}
 use Rattle.format.proofs.Characters.Scalars.{encoding-whole}
 
@@ -57,6 +58,23 @@ digit-ascii c n h =
     (branch (leb 97 c && leb c 102) _ _ n (λ t e. omega (arith, leb-true c 102 (and-right (leb 97 c) (leb c 102) t)))
     (branch (leb 65 c && leb c 70) _ _ n (λ t e. omega (arith, leb-true c 70 (and-right (leb 65 c) (leb c 70) t))) (nothing n)))
     h
+
+-- a number, where there is one, is below k
+abbrev pub Below : ℕ → Option ℕ → Type 0
+Below k o = (n : ℕ) → o ≡ some n → n < k
+
+pub digit-small : (c : ℕ) → Below 16 (digitValue c)
+unfolding digitValue
+digit-small c n h =
+    branch (within c (48 to 57)) _ _ n (λ t e. let z : c - 48 ≡ n = cc in omega (arith, within-high c (48 to 57) t))
+    (branch (within c (97 to 102)) _ _ n (λ t e. let z : c - 87 ≡ n = cc in omega (arith, within-high c (97 to 102) t))
+    (branch (within c (65 to 70)) _ _ n (λ t e. let z : c - 55 ≡ n = cc in omega (arith, within-high c (65 to 70) t)) (nothing n)))
+    h
+
+pub first-small : (r : Manner) (c : ℕ) → Below 16 (firstDigit r c)
+unfolding firstDigit
+first-small Rfc c n h = digit-small c n h
+first-small Source c n h = branch (eqb c plus) _ _ n (λ t e. let z : 0 ≡ n = cc in omega arith) (digit-small c n) h
 
 shifted-some : (o d : Option ℕ) (n : ℕ) → shifted o d ≡ some n → (m : ℕ) × (k : ℕ) × (o ≡ some m) × (d ≡ some k)
 shifted-some none d n h = nothing n h
