@@ -28,9 +28,9 @@ pairOf none o = false
 pairOf (some x) none = false
 pairOf (some x) (some y) = not (eqb x 13 && leb 8 y)
 
-surrogate : (n : ℕ) → 55296 ≤ n → n ≤ 57343 → isScalar n ≡ false
+surrogate : (n : ℕ) → 0xD800 ≤ n → n ≤ 0xDFFF → isScalar n ≡ false
 unfolding isScalar
-surrogate n h k = rw (lt-leb n 55295 (omega arith), le-leb 0 n (omega arith), lt-leb 57344 n (omega arith)) refl
+surrogate n h k = rw (lt-leb n 0xD7FF (omega arith), le-leb 0 n (omega arith), lt-leb 0xE000 n (omega arith)) refl
 
 -- the first two digits tell whether the number is a surrogate
 scalar-pair : (x y z w : ℕ) → x < 16 → y < 16 → z < 16 → w < 16 → isScalar (((x * 16 + y) * 16 + z) * 16 + w) ≡ not (eqb x 13 && leb 8 y)
