@@ -106,10 +106,10 @@ ways-are =
     ∙ u-next 0
     ∙ rw (four-ways, count-zero unescapes) refl
 
--- four bytes that pass are ASCII
-pub four-string : (s : Bytes) → length s ≡ 4 → isAnswered 0 (ascii "\\u" ++ s) ≡ true → isString 4 s ≡ true
+-- what passes begins with four ASCII bytes
+pub four-string : (s : Bytes) → isAnswered 0 (ascii "\\u" ++ s) ≡ true → isString 4 (take 4 s) ≡ true
 unfolding scalarEscape isString all longEscape
-four-string s e h = among s e (and-left (four (take 4 s)) (unescapes (drop 4 s)) (sym (behind-u s ∙ u-first s) ∙ h))
+four-string s h = among s (and-left (four (take 4 s)) (unescapes (drop 4 s)) (sym (behind-u s ∙ u-first s) ∙ h))
   where
     of : (a b c d : ℕ) (o : Option ℕ) → fourDigits Source a b c d ≡ o → isSome (scalarEscape o) ≡ true → isString 4 (a ∷ b ∷ c ∷ d ∷ []) ≡ true
     of a b c d none f t = clash t refl
@@ -117,10 +117,9 @@ four-string s e h = among s e (and-left (four (take 4 s)) (unescapes (drop 4 s))
         let k = four-ascii Source a b c d n f in
         rw (lt-ltb a 128 (k .0), lt-ltb b 128 (k .1), lt-ltb c 128 (k .2), lt-ltb d 128 (k .3)) refl
 
-    among : (s : Bytes) → length s ≡ 4 → four (take 4 s) ≡ true → isString 4 s ≡ true
-    among [] e t = clash t refl
-    among (a ∷ []) e t = clash t refl
-    among (a ∷ b ∷ []) e t = clash t refl
-    among (a ∷ b ∷ c ∷ []) e t = clash t refl
-    among (a ∷ b ∷ c ∷ d ∷ []) e t = of a b c d (fourDigits Source a b c d) refl t
-    among (a ∷ b ∷ c ∷ d ∷ x ∷ s) e t = absurd (omega arith)
+    among : (s : Bytes) → four (take 4 s) ≡ true → isString 4 (take 4 s) ≡ true
+    among [] t = clash t refl
+    among (a ∷ []) t = clash t refl
+    among (a ∷ b ∷ []) t = clash t refl
+    among (a ∷ b ∷ c ∷ []) t = clash t refl
+    among (a ∷ b ∷ c ∷ d ∷ s) t = of a b c d (fourDigits Source a b c d) refl t

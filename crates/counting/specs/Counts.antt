@@ -7,7 +7,7 @@ use mathlib.Core.Bool.{Bool, true}
 use mathlib.Core.List.{List, _++_}
 use mathlib.Core.Option.{Option, none, some}
 use lib.Dec.{eqb}
-use lib.ListN.{length}
+use lib.ListN.{length, take}
 use Rattle.format.specs.Bytes.{Bytes, ascii, same}
 use Rattle.format.specs.Characters.{trim}
 use Rattle.format.specs.Escaping.{unescape}
@@ -68,8 +68,8 @@ pub record Counts : Type 0 where
   pub reading : (s : Bytes) → readValue s ≡ _>>=_ (unescaping (trim s)) (λ v. _>>_ (headerValue v) (accepted v))
   -- The accepted and the refused are all strings of the length.
   pub either : (n : ℕ) → acceptedCount n + refusedCount n ≡ 128 ^ n
-  -- The four characters after `\u`: only ASCII ones pass.
-  pub fourAscii : (s : Bytes) → length s ≡ 4 → isAnswered 0 (ascii "\\u" ++ s) ≡ true → isString 4 s ≡ true
+  -- What stands after `\u` where a string is accepted, whatever it is, begins with four ASCII bytes; these pass in so many ways.
+  pub fourAscii : (s : Bytes) → isAnswered 0 (ascii "\\u" ++ s) ≡ true → isString 4 (take 4 s) ≡ true
   pub fourPass : ways ≡ 231352
   -- What is accepted at a length of six and more, by the lengths before it.
   pub recurrence : (n : ℕ) → acceptedCount (6 + n) ≡ 127 * acceptedCount (5 + n) + 6 * acceptedCount (4 + n) + 231352 * acceptedCount n

@@ -1,4 +1,4 @@
-// What the programs print, over the bytes of an output: here what `showcpim` prints for its input (document 01, "Looking up";
+// What `showcpim` and `wholecpim` print, over the bytes of an output: here what `showcpim` prints for its input (document 01, "Looking up";
 // crates/format/specs/Showing.antt), in `telling` what `wholecpim` does, with `words` for both.
 
 pub mod telling;

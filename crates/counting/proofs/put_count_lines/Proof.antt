@@ -1,4 +1,4 @@
--- `counting::put_count_lines` meets its contract. The invariant, `Counted`: the table has the definition's counts, and the lines of the
+-- `counting::put_count_lines` meets its contract. The invariant, `CountedLines`: the table has the definition's counts, and the lines of the
 -- lengths passed stand in the output. Assumes nothing.
 use Prim.Native.Nat.{_-_}
 use mathlib.Core.Path.{refl}
