@@ -1,6 +1,8 @@
 // A script of changing calls, run on a message in lent stores: each call gets the record that the last handed back and the stores it
 // takes, as last left.
 
+#![tactic(auto)]
+
 mod pair_calls;
 mod text_calls;
 

@@ -1,5 +1,7 @@
 // A script of changing calls as bytes (specs/Script.antt): where an argument stands, and where a call ends.
 
+#![tactic(auto)]
+
 ghost use Rattle.std.specs.Prelude.{◌≡◌, true, ◌+◌, ◌*◌, ◌≤◌, ◌<◌, length, drop, get_or};
 ghost use Rattle.calls_script.specs.Script.{number_in, whole, argument, argument_size, both_whole, both_size, header_whole, header_size, form_of, complete, size_of, kind_of, end_of};
 

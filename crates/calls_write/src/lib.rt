@@ -1,6 +1,8 @@
 // Demand 3 through the functions, to the end: a list of calls begun by a text read or by `new`, and then the text of the message that is
 // held. What is written is the text of the message that the beginning and the calls define.
 
+#![tactic(auto)]
+
 pub mod begun;
 
 ghost use Rattle.std.specs.Prelude.{◌≡◌};

@@ -1,4 +1,6 @@
 // What stands at a place of a text, by Unicode Table 3-7: a well-formed character, or a maximal ill-formed subpart.
+#![tactic(auto)]
+
 ghost use Rattle.std.specs.Prelude.{◌≡◌, ◌+◌, ◌≤◌, ◌<◌, length, drop, get_or};
 ghost use Rattle.format.specs.Characters.{◌to◌, within};
 ghost use Rattle.characters.specs.Coded.{coded_rows, matched_ends, lead_row};

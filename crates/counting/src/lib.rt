@@ -2,6 +2,8 @@
 // lines over the bytes of an output. The lines have the numbers of the definition (specs/CountLines.antt), so the table below is proved, row by
 // row.
 
+#![tactic(auto)]
+
 ghost use Rattle.std.specs.Prelude.{◌+◌, ◌≤◌, length};
 ghost use Rattle.output.specs.Put.{Put};
 ghost use Rattle.counting.specs.CountLines.{count_words, count_lines};

@@ -3,6 +3,8 @@
 // length, a record as its numbers in the order in which crates/format, read_split, read, lookup_places (spots.rt) and roundtrip declare it.
 // What is lent to be written must overlap nothing else that is lent.
 
+#![tactic(auto)]
+
 mod lookups;
 
 ghost use Rattle.std.specs.Prelude.{◌≡◌, length};

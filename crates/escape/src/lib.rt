@@ -1,6 +1,8 @@
 // Document 01, "Escaping": a text as it is escaped, in two steps: the length, for which the caller lends the room, and the bytes. A header
 // value in its line, whose ends are written otherwise, is in the module `values`.
 
+#![tactic(auto)]
+
 mod bare;
 mod forms;
 mod putting;

@@ -3,6 +3,8 @@
 // (specs/Escaping.antt) and `Quoting` (specs/LookingUp.antt). This crate has no function of its own; its definitions are
 // document 01, with what document 02 changes.
 
+#![tactic(auto)]
+
 // What a call answers: the refusal's number, 0 where it is accepted, and the carried number.
 #[repr(C)]
 #[derive(Drop)]

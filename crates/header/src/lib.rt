@@ -1,6 +1,8 @@
 // A header alone in its lent store, under the source's names: made with a value, then given parameters. Refused, a call writes
 // nothing; `new` then hands back the empty record, `with_param` the record that it got.
 
+#![tactic(auto)]
+
 ghost use Rattle.std.specs.Prelude.{◌≡◌, true, List, ◌∷◌, ◌++◌, ◌+◌, ◌≤◌, ◌<◌, length};
 ghost use Rattle.format.specs.Message.{Entry, LoneHeader, entry, entry_name, need_entry};
 ghost use Rattle.format.specs.Calls.{if_room_alone};

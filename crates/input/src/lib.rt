@@ -1,6 +1,8 @@
 // Input read whole, for the programs: the end of the input is told from a read that fails, and a read that was interrupted or found
 // nothing ready is made again. Which bytes are read no contract can say.
 
+#![tactic(auto)]
+
 ghost use Rattle.io.specs.Counts.{IsPrefixLen};
 ghost use Rattle.input.specs.Reads.{Says, Passes};
 

@@ -1,4 +1,6 @@
 // The leaves as C functions, for the comparison with Rust and for the benchmarks. Each has the contract of what it wraps.
+#![tactic(auto)]
+
 ghost use Rattle.std.specs.Prelude.{◌≡◌, map, true, ◌+◌, ◌*◌, ◌^◌, ◌<◌, ◌≤◌, length, take, drop, replicate};
 ghost use Rattle.format.specs.Bytes.{lf_lf_text, pasted, same, before, occurs, pieces, split, up_to, lower, same_letters};
 ghost use Rattle.format.specs.Characters.{is_utf8, is_white, is_control, replaced, trim};

@@ -2,6 +2,8 @@
 // a header alone. What is handed out is a part of the lent store; `found` tells an absent value from an empty one. Any record and any
 // bytes may be lent, and any n asked for.
 
+#![tactic(auto)]
+
 pub mod accessors;
 pub mod alone;
 pub mod content_headers;

@@ -1,5 +1,7 @@
 // The headers of a name in what is held, as a part of the head store. Any record and any bytes may be lent.
 
+#![tactic(auto)]
+
 ghost use Rattle.std.proofs.Math.Option.{Option};
 ghost use Rattle.format.specs.Message.{Message};
 ghost use Rattle.format.specs.Layout.{layout_header, Held};

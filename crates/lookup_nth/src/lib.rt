@@ -1,5 +1,7 @@
 // The n-th of some entries in a store, one behind another: its name, its value, its parameters; and the parameters of all counted.
 
+#![tactic(auto)]
+
 ghost use Rattle.std.specs.Prelude.{◌≡◌, true, ◌<◌};
 ghost use Rattle.format.specs.Bytes.{total};
 ghost use Rattle.format.specs.LookingUp.{nth, mapped};

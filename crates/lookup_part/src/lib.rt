@@ -1,5 +1,7 @@
 // A part of lent bytes, or the answer that there is none. `found` tells an absent part from an empty one.
 
+#![tactic(auto)]
+
 pub mod opening;
 
 ghost use Rattle.std.specs.Prelude.{◌≡◌, ◌-◌, ◌≤◌, length, take, drop};

@@ -1,6 +1,8 @@
 // Where everything stands that is held: the name and the value of each header, parameter and content header, by four numbers each
 // (specs/Rows.antt); in modules the lookups of crates/lookup by place. Any record and any bytes may be lent.
 
+#![tactic(auto)]
+
 pub mod by_name;
 pub mod spots;
 pub mod standing;

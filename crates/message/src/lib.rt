@@ -1,6 +1,8 @@
 // The calls on a message in lent stores, under the source's names. Each takes the record and the stores and answers with the two
 // numbers and the record to go on with; refused, it hands back the record that it got and has written nothing.
 
+#![tactic(auto)]
+
 pub mod builders;
 
 ghost use Rattle.std.specs.Prelude.{◌≡◌};

@@ -1,6 +1,8 @@
 // A header that was built alone, added to a message: its value and its parameters are parts of the header store, which is only
 // read.
 
+#![tactic(auto)]
+
 ghost use Rattle.format.specs.Lending.{head_lent, numbers_of, HeaderAdded};
 
 use format::{Answer, CpimHeader, CpimMessage};

@@ -1,6 +1,8 @@
 // Entries of a message that is held: where those of a name stand, and an entry put in their place or behind them. Bytes move
 // once; room is judged before the first one moves.
 
+#![tactic(auto)]
+
 ghost use Rattle.std.specs.Prelude.{◌≡◌, true, List, ◌∷◌, ◌++◌, ◌+◌, ◌≤◌, ◌<◌, length};
 ghost use Rattle.format.specs.Message.{Entry, Header, Message, entry, entry_name, name_of, need_entry, need_header};
 ghost use Rattle.format.specs.Calls.{if_room, with_headers, with_contents};

@@ -1,6 +1,8 @@
 // What the changing calls do to a message that is held: the checks on the arguments in document 01's order, then the entry put in
 // its place.
 
+#![tactic(auto)]
+
 ghost use Rattle.std.specs.Prelude.{◌≡◌, true, ◌&&◌, List, ◌<◌, length};
 ghost use Rattle.format.specs.Characters.{is_utf8};
 ghost use Rattle.format.specs.Refusals.{numbers};

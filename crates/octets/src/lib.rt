@@ -2,6 +2,8 @@
 // Each contract is an equation with a definition of crates/format/specs/Bytes.antt; proofs/Paste.antt has the laws of
 // `pasted`, by which every crate above says what it wrote.
 
+#![tactic(auto)]
+
 pub mod compare;
 pub mod finding;
 pub mod shifting;

@@ -1,6 +1,8 @@
 // Bytes and texts over the bytes of an output, from a place on; each function gives the place behind what it wrote. `decimals` has numbers.
 // What several of them put, one behind another, is said by `Put` (specs/Put.antt), with a bound for the room that it takes.
 
+#![tactic(auto)]
+
 pub mod decimals;
 
 ghost use Rattle.std.specs.Prelude.{◌≡◌, [], ◌∷◌, ◌+◌, ◌≤◌, ◌<◌, length};

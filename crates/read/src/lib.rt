@@ -4,6 +4,8 @@
 // measured, or by `parse_cpim` and `parse_cpim_rfc` laid into the body store: under LFLF it is joined there and then
 // judged, under CRLFCRLF judged and then copied. A refused reading leaves zeros in what it is lent.
 
+#![tactic(auto)]
+
 mod section_lines;
 
 ghost use Rattle.std.specs.Prelude.{◌≡◌, true, ◌≤◌, length, drop};

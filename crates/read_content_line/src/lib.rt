@@ -1,5 +1,7 @@
 // Document 01, "Reading": a content line, read into a message that is held, and the type in the head store's first 256 bytes.
 
+#![tactic(auto)]
+
 ghost use Rattle.std.specs.Prelude.{◌≡◌, true, ◌≤◌, length};
 ghost use Rattle.format.specs.Bytes.{pasted};
 ghost use Rattle.format.specs.Message.{Message};

@@ -2,6 +2,8 @@
 // are found (`parts`), the name is checked and the parameters are read into room that is lent for them (`params`); then the value is read
 // and the header appended (`values`).
 
+#![tactic(auto)]
+
 mod params;
 mod parts;
 mod values;

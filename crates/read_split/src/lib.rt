@@ -1,6 +1,8 @@
 // Document 01, "Reading": a text judged by 1, 24 and 2, and its parts by their places. "Looking up": the body without a store, in two
 // calls.
 
+#![tactic(auto)]
+
 ghost use Rattle.std.specs.Prelude.{◌≡◌, ◌≤◌, length, drop};
 ghost use Rattle.format.specs.Limits.{max_text};
 ghost use Rattle.format.specs.Refusals.{numbers};

@@ -1,6 +1,8 @@
 // What `showcpim` and `wholecpim` print, over the bytes of an output: here what `showcpim` prints for its input (document 01, "Looking up";
 // crates/format/specs/Showing.antt), in `telling` what `wholecpim` does, with `words` for both.
 
+#![tactic(auto)]
+
 pub mod telling;
 mod words;
 

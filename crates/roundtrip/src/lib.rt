@@ -1,6 +1,8 @@
 // Which messages come back whole by either reading (demand 3; document 02, T-01): yes or no for what is held, and where
 // no, which clause of the condition fails first and for which entry. Any record and any bytes may be lent.
 
+#![tactic(auto)]
+
 mod clauses;
 
 ghost use Rattle.std.specs.Prelude.{◌≡◌, true, List};

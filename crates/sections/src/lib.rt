@@ -2,6 +2,8 @@
 // text after it is searched on": the part of the text that starts past a separator is handed to the search (`search`). `bodies` joins an
 // LFLF body, `fields` takes a line apart.
 
+#![tactic(auto)]
+
 pub mod bodies;
 pub mod fields;
 pub mod search;

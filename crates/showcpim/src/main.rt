@@ -1,5 +1,7 @@
 // Document 01, "Looking up": reads a text on standard input and prints what was read of it. `report::show` says what is printed.
 
+#![tactic(auto)]
+
 fn main() {
     let mut text = [0u8; 65537];
     let got = input::read_whole(0, &mut text);

@@ -1,6 +1,8 @@
 // Whether a record and lent stores hold a message, or a header alone: any numbers and any bytes are judged, in bounds and part
 // by part (specs/Holding.antt).
 
+#![tactic(auto)]
+
 ghost use Rattle.std.specs.Prelude.{◌≡◌, ◌≤◌, length};
 ghost use Rattle.store_check.specs.Holding.{type_holds, numbers_hold, message_holds, sizes_hold, header_holds};
 

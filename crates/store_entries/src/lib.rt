@@ -2,6 +2,8 @@
 // (crates/format/specs/Layout.antt). Here one is read; specs/Stored.antt says what stands where. `groups` passes over entries and finds
 // those of a name.
 
+#![tactic(auto)]
+
 pub mod groups;
 
 ghost use Rattle.std.specs.Prelude.{◌≡◌, true, ◌+◌, ◌*◌, ◌≤◌, ◌<◌, eqb, length, drop, get_or};

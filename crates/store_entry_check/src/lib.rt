@@ -1,6 +1,8 @@
 // Whether bytes are entries of a kind, or headers with their parameters: any bytes are judged, in bounds and entry by entry
 // (specs/EntriesHold.antt).
 
+#![tactic(auto)]
+
 mod fitting;
 pub mod kinds;
 mod weights;

@@ -1,6 +1,8 @@
 // Entries put into a store (crates/format/specs/Layout.antt), between those that stand before and behind them. Bytes past the
 // used ones stay as they are.
 
+#![tactic(auto)]
+
 ghost use Rattle.std.specs.Prelude.{◌≡◌, true, ◌++◌, ◌+◌, ◌-◌, ◌≤◌, ◌<◌, ltb, length, take, drop};
 ghost use Rattle.format.specs.Bytes.{if◌then◌else◌, pasted, over};
 ghost use Rattle.format.specs.Refusals.{numbers};

@@ -2,6 +2,8 @@
 // altered to several values each. A call is accepted, or refused by 25 carrying 0 with nothing changed; after an accepted one
 // the lookups give what the call defines, and all else as before.
 
+#![tactic(auto)]
+
 use format::{CpimHeader, CpimMessage};
 use io::{print_decimal, write_all};
 use lookup::content_headers::content_value;

@@ -9,6 +9,8 @@
 // source made the list, but for the text where a header value has white space that is no control character at an end: it follows document
 // 02, T-03. rust/beside/src/bin/record says how.
 
+#![tactic(auto)]
+
 use calls_script::{argument_at, argument_end, number_at};
 use calls_write::begun::{new_and_run, read_and_run};
 use format::{Answer, CpimMessage};

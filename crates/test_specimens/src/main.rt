@@ -2,6 +2,8 @@
 // read, and what was read is written again. A line for each: its name, the refusal's number and what it carries; behind an accepted one
 // the text that is written. Then header lines by both readings (T-01, `second_reading`). The file `stdout` is what the documents say.
 
+#![tactic(auto)]
+
 mod second_reading;
 
 use crate::second_reading::{

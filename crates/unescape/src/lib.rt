@@ -2,6 +2,8 @@
 // lends the room, and the bytes. The stretches between backslashes are read as they are, and each escape as the character
 // that it stands for.
 
+#![tactic(auto)]
+
 mod backslash;
 mod coding;
 mod digits;

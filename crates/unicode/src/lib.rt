@@ -1,6 +1,8 @@
 // Code points, white space and control characters (document 01, "Characters"), of any bytes; in modules, white space at the ends of a
 // text: stripped, and looked for.
 
+#![tactic(auto)]
+
 pub mod ends;
 pub mod trimming;
 

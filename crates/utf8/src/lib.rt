@@ -1,6 +1,8 @@
 // UTF-8 over whole texts: by blocks as far as they go (`blocks`, `soundness`), and characters one by one elsewhere; `replace` puts U+FFFD
 // for what is ill-formed.
 
+#![tactic(auto)]
+
 mod blocks;
 pub mod replace;
 mod soundness;

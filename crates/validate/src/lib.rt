@@ -1,6 +1,8 @@
 // Document 01, "Validators", under the source's names. Each answers with the refusal's number and what it carries, or with
 // 0 and 0; what each refuses, and in which order, is crates/format/specs/Validators.antt.
 
+#![tactic(auto)]
+
 mod classes;
 
 ghost use Rattle.std.specs.Prelude.{◌≡◌};

@@ -1,6 +1,8 @@
 // Reads a notice on standard input and says whether what the gateway would write for it comes back whole, and if not what is lost and why.
 // `report::telling::tell` says what is printed.
 
+#![tactic(auto)]
+
 fn main() {
     let mut text = [0u8; 65537];
     let got = input::read_whole(0, &mut text);

@@ -1,6 +1,8 @@
 // Document 01, "Writing": `to_string`, on any record and any bytes. The length is known before the first byte is written: refused, it writes
 // nothing.
 
+#![tactic(auto)]
+
 ghost use Rattle.std.specs.Prelude.{◌≡◌, true, ◌≤◌, length};
 ghost use Rattle.std.proofs.Math.Option.{Option};
 ghost use Rattle.format.specs.Bytes.{over};

@@ -1,6 +1,8 @@
 // Document 01, "Writing": "The writer is a record of the output and the next free byte." Each function over it takes it apart and calls the
 // covered one on the output and the place; each is proved by a walk of its MIR, by hand. `write_text` takes plain slices: whoever calls it
 // needs no walk.
+#![tactic(auto)]
+
 ghost use Rattle.std.specs.Prelude.{◌≡◌, true, ◌++◌, ◌+◌, ◌≤◌, length};
 ghost use Rattle.format.specs.Bytes.{crlf_text, pasted, texts};
 ghost use Rattle.format.specs.Characters.{replaced};

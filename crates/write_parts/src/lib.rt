@@ -1,6 +1,8 @@
 // Document 01, "Writing": the parts of a text over the bytes of an output. Each function writes from a place on and gives the place behind
 // what it wrote. The headers' and content headers' lines are in `lines`; `measure` says how long a text is before it is written.
 
+#![tactic(auto)]
+
 pub mod lines;
 pub mod measure;
 
