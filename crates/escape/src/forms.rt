@@ -6,7 +6,7 @@ ghost use Rattle.escape.specs.Forms.{byte_form, form_of, takes_form, width_form}
 
 // How the next bytes are written: a byte as it is; a backslash and a letter; `\u` and the digits of a control byte;
 // and those of a two-byte control, whose second byte is its code point.
-#[derive(Drop)]
+#[derive(Clone, Copy)]
 pub enum Form {
     Raw(u8),
     Short(u8),

@@ -82,7 +82,7 @@ fn ascii_ends(v: &[u8]) -> bool
 }
 
 // Where the ends are cut off: behind the first `front` bytes, and at the place `end`.
-#[derive(Drop)]
+#[derive(Clone, Copy)]
 struct Ends {
     front: usize,
     end: usize,

@@ -7,7 +7,7 @@
 
 // What a call answers: the refusal's number, 0 where it is accepted, and the carried number.
 #[repr(C)]
-#[derive(Drop)]
+#[derive(Clone, Copy)]
 pub struct Numbers {
     pub number: u64,
     pub carried: u64,
@@ -16,7 +16,7 @@ pub struct Numbers {
 // A message: length of its type; its headers and the bytes that they take in the head store; its content headers and
 // theirs; length of its body.
 #[repr(C)]
-#[derive(Drop)]
+#[derive(Clone, Copy)]
 pub struct CpimMessage {
     pub typelen: usize,
     pub headers: usize,
@@ -28,7 +28,7 @@ pub struct CpimMessage {
 
 // A header alone: length of its value; its parameters; the bytes that it takes in the header store, 0 where nothing is held.
 #[repr(C)]
-#[derive(Drop)]
+#[derive(Clone, Copy)]
 pub struct CpimHeader {
     pub valuelen: usize,
     pub params: usize,
@@ -37,7 +37,7 @@ pub struct CpimHeader {
 
 // What a call on a message answers: the two numbers, and the record that it hands back.
 #[repr(C)]
-#[derive(Drop)]
+#[derive(Clone, Copy)]
 pub struct Answer {
     pub number: u64,
     pub carried: u64,
@@ -46,7 +46,7 @@ pub struct Answer {
 
 // What a call on a header alone answers.
 #[repr(C)]
-#[derive(Drop)]
+#[derive(Clone, Copy)]
 pub struct HeaderAnswer {
     pub number: u64,
     pub carried: u64,
@@ -54,14 +54,14 @@ pub struct HeaderAnswer {
 }
 
 // By which reading a header line is read: the source's, or the second, with parameters and escapes as RFC 3862 has them.
-#[derive(Drop)]
+#[derive(Clone, Copy)]
 pub enum Manner {
     Source,
     Rfc,
 }
 
 // Where a byte of a header value stands: outside quoted strings, inside one, or there behind a backslash, which covers it.
-#[derive(Drop)]
+#[derive(Clone, Copy)]
 pub enum Quoting {
     Outside,
     Inside,

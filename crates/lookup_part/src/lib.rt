@@ -31,7 +31,7 @@ pub fn part<'a>(s: &'a [u8], from: usize, to: usize, found: &mut bool) -> &'a [u
 }
 
 // Where a part stands in lent bytes: from a place up to another. Both are 0 where there is none.
-#[derive(Drop)]
+#[derive(Clone, Copy)]
 pub struct Span {
     pub found: bool,
     pub from: usize,

@@ -17,7 +17,7 @@ use store_entries::{name_len, param_count, tail_len, value_len};
 use utf8::is_utf8;
 
 // Whether there is such a header, and where it begins in the head store.
-#[derive(Drop)]
+#[derive(Clone, Copy)]
 pub struct Spot {
     pub found: bool,
     pub at: usize,

@@ -13,7 +13,7 @@ use store_entries::{name_len, value_len};
 
 // A part: whether there is one, where it begins, and its length.
 #[repr(C)]
-#[derive(Drop)]
+#[derive(Clone, Copy)]
 pub struct Part {
     pub found: bool,
     pub start: usize,
@@ -22,7 +22,7 @@ pub struct Part {
 
 // A name and a value: whether there is such an entry, where the name begins, its length, and the length of the value behind it.
 #[repr(C)]
-#[derive(Drop)]
+#[derive(Clone, Copy)]
 pub struct Pair {
     pub found: bool,
     pub start: usize,

@@ -34,7 +34,7 @@ use store_check::MAX_BODY_SIZE;
 // What a reading that leaves the body where it stands answers: the two numbers, the record, whether the body stands in the text, and
 // where it begins there.
 #[repr(C)]
-#[derive(Drop)]
+#[derive(Clone, Copy)]
 pub struct HeadAnswer {
     pub number: u64,
     pub carried: u64,

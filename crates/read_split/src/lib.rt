@@ -19,7 +19,7 @@ pub const MAX_PARSE_SIZE: usize = 20971520;
 
 // What reading makes of a text before it reads a line: a refusal's two numbers, or the places of its first three sections, as
 // in Places, and whether its separator is CRLFCRLF.
-#[derive(Drop)]
+#[derive(Clone, Copy)]
 pub enum Judgement {
     Refused {
         number: u64,
@@ -38,7 +38,7 @@ pub enum Judgement {
 
 // What a call answers that writes bytes: the two numbers, and how many the bytes are, 0 where it is refused.
 #[repr(C)]
-#[derive(Drop)]
+#[derive(Clone, Copy)]
 pub struct LengthAnswer {
     pub number: u64,
     pub carried: u64,
@@ -47,7 +47,7 @@ pub struct LengthAnswer {
 
 // Where the second call's part stands: whether in the text, else in the buffer; where it begins, and its length.
 #[repr(C)]
-#[derive(Drop)]
+#[derive(Clone, Copy)]
 pub struct BodyPlace {
     pub in_text: bool,
     pub start: usize,

@@ -14,7 +14,7 @@ use store_entries::{entry_len, name_at, param_count, tail_at, value_at};
 use unicode::ends::clear_ends;
 
 // What a clause asks of an entry: of a header, a content header or, last, of a parameter.
-#[derive(Drop)]
+#[derive(Clone, Copy)]
 pub enum Clause {
     NoParam,
     NotType,

@@ -25,7 +25,7 @@ use utf8::is_utf8;
 // The clause that fails first, by its number in specs/Loss.antt, 1 to 7; 0 where none does and 9 where nothing is held, and 8 is never
 // given. And the number of the header or content header that it fails for, counting from 0, 0 where it speaks of none.
 #[repr(C)]
-#[derive(Drop)]
+#[derive(Clone, Copy)]
 pub struct Loss {
     pub clause: usize,
     pub entry: usize,

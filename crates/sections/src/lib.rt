@@ -17,7 +17,7 @@ use crate::search::find;
 
 // The first piece of a text: its bytes are those before end; next is the place behind the separator, or the length; last
 // where there is no separator.
-#[derive(Drop)]
+#[derive(Clone, Copy)]
 pub struct Piece {
     pub end: usize,
     pub next: usize,
@@ -25,7 +25,7 @@ pub struct Piece {
 }
 
 // The first three sections: 0 to end1, start2 to end2, start3 to end3; the others are those of the text from rest on.
-#[derive(Drop)]
+#[derive(Clone, Copy)]
 pub enum Places {
     Few,
     Four {

@@ -8,7 +8,7 @@ ghost use Rattle.store_entries.specs.Passing.{whilst, is_passed, passed_over, un
 use crate::{entry_len, name_at};
 
 // The bytes and the number of entries that were passed over.
-#[derive(Drop)]
+#[derive(Clone, Copy)]
 pub struct Passed {
     pub size: usize,
     pub many: usize,
@@ -16,7 +16,7 @@ pub struct Passed {
 
 // The entries of a name among others, which are in the order of their names: the bytes before them, theirs, and how many
 // they are.
-#[derive(Drop)]
+#[derive(Clone, Copy)]
 pub struct Group {
     pub at: usize,
     pub size: usize,

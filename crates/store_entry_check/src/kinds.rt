@@ -8,7 +8,7 @@ ghost use Rattle.store_entry_check.specs.Kinds.{name_check, value_check, params_
 pub const MAX_PARAMS_PER_HEADER: usize = 10;
 
 // What an entry is.
-#[derive(Drop)]
+#[derive(Clone, Copy)]
 pub enum Kind {
     Header,
     Param,

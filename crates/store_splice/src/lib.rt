@@ -18,7 +18,7 @@ use unescape::unescape_header_value;
 
 // How a lent text stands for a value (specs/Notations.antt): as it is, or with the escapes of a header line, read in a
 // manner.
-#[derive(Drop)]
+#[derive(Clone, Copy)]
 pub enum Notation {
     Plain,
     Escaped(Manner),

@@ -8,7 +8,7 @@ use crate::digits::four_digits;
 use format::Manner;
 
 // What stands behind a backslash: the code point of an escape and how many bytes it takes there, or no escape.
-#[derive(Drop)]
+#[derive(Clone, Copy)]
 pub enum Read {
     Code(u32, usize),
     Nothing,

@@ -20,7 +20,7 @@ use octets::copy_at;
 use octets::finding::find_byte;
 
 // Whether a text reads, and the length of what it reads as.
-#[derive(Drop)]
+#[derive(Clone, Copy)]
 pub struct Unescaped {
     pub ok: bool,
     pub len: usize,

@@ -7,7 +7,7 @@ ghost use Rattle.format.specs.Validators.{reserved_in_name, reserved_in_param_na
 ghost use Rattle.validate.specs.Classes.{in_class};
 
 // The bytes that a text is searched for.
-#[derive(Drop)]
+#[derive(Clone, Copy)]
 pub enum Class {
     Control,
     Name,
