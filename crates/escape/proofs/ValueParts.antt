@@ -18,10 +18,10 @@ use Rattle.format.proofs.Characters.Chars.{chars_whole}
 use Rattle.format.proofs.Escaping.EndForm.{lost_whole}
 use Rattle.format.proofs.Escaping.ValueText.{last_escape, forms_last}
 use Rattle.octets.proofs.Paste.{pasted_nil}
-use Rattle.unicode.specs.Ends.{lost_front, lost_back}
-use Rattle.unicode.proofs.WhiteTests.{lost_empty}
-use Rattle.unicode.proofs.LastChar.{chars_last}
-use Rattle.unicode.proofs.LostEnds.{front_empty, back_empty, front_ascii, back_ascii, front_kept, back_kept, front_lost, back_lost, front_inside, back_inside}
+use Rattle.code_points.specs.Ends.{lost_front, lost_back}
+use Rattle.code_points.proofs.WhiteTests.{lost_empty}
+use Rattle.code_points.proofs.LastChar.{chars_last}
+use Rattle.code_points.proofs.LostEnds.{front_empty, back_empty, front_ascii, back_ascii, front_kept, back_kept, front_lost, back_lost, front_inside, back_inside}
 use Rattle.escape.specs.Values.{lost_text, Cuts, ascii_end, ascii_ends}
 
 end_lost : (g : Bytes) → is_lost g ≡ true → end_form g ≡ lost_text g

@@ -9,8 +9,8 @@ ghost use Rattle.escape.specs.Values.{lost_text, Cuts, ascii_end, ascii_ends};
 
 use crate::putting::put_unicode;
 use crate::{escape_header_value, escaped_len};
-use unicode::code_point;
-use unicode::ends::{lost_back, lost_front};
+use code_points::code_point;
+use code_points::ends::{lost_back, lost_front};
 
 // How many bytes such a character is written in; no bytes stand for none.
 fn lost_len(g: &[u8]) -> usize

@@ -23,14 +23,14 @@ pub extern "C" fn leaves_is_utf8(s: &[u8]) -> bool
 pub extern "C" fn leaves_is_white(s: &[u8]) -> bool
     ensures { result ≡ is_white s.now }
 {
-    unicode::is_white(s)
+    code_points::is_white(s)
 }
 
 #[unsafe(no_mangle)]
 pub extern "C" fn leaves_is_control(s: &[u8]) -> bool
     ensures { result ≡ is_control s.now }
 {
-    unicode::is_control(s)
+    code_points::is_control(s)
 }
 
 // The trimmed text at the start of out; its length is the answer.
@@ -40,7 +40,7 @@ pub extern "C" fn leaves_trim(out: &mut [u8], s: &[u8]) -> usize
     ensures len { result ≡ length (trim s.now) }
     ensures bytes { out.new ≡ pasted 0 (trim s.now) out.old }
 {
-    let t = unicode::trimming::trim(s);
+    let t = code_points::trimming::trim(s);
     octets::copy_at(out, 0, t);
     t.len()
 }

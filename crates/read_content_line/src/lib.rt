@@ -17,7 +17,7 @@ use message_rules::{content_held, refused};
 use octets::compare::same_letters;
 use octets::copy_at;
 use sections::fields::{has, past, up_to};
-use unicode::trimming::trim;
+use code_points::trimming::trim;
 use validate::validate_content_type;
 
 // A type over the first 256 bytes of the head store, zeros behind it.

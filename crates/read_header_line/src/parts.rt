@@ -9,7 +9,7 @@ ghost use Rattle.read_header_line.specs.HeaderLine.{name_by, params_by, value_by
 
 use format::Manner;
 use octets::finding::find_byte;
-use unicode::trimming::trim;
+use code_points::trimming::trim;
 
 // The place of the first space right of the colon; the first reading asks for none.
 pub fn space_at(manner: Manner, right: &[u8]) -> usize

@@ -11,7 +11,7 @@ ghost use Rattle.roundtrip.specs.Clauses.{as_entry, meets, params_stand, stored_
 use octets::compare::same_letters;
 use octets::finding::find_byte;
 use store_entries::{entry_len, name_at, param_count, tail_at, value_at};
-use unicode::ends::clear_ends;
+use code_points::ends::clear_ends;
 
 // What a clause asks of an entry: of a header, a content header or, last, of a parameter.
 #[derive(Clone, Copy)]

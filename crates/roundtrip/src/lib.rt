@@ -19,7 +19,7 @@ ghost use Rattle.roundtrip.specs.Loss.{none_lost, params_asked, name_asked, earl
 use crate::clauses::{Clause, count_passing, count_spaceless};
 use format::{CpimMessage, Manner};
 use store_check::message_holds;
-use unicode::ends::clear_ends;
+use code_points::ends::clear_ends;
 use utf8::is_utf8;
 
 // The clause that fails first, by its number in specs/Loss.antt, 1 to 7; 0 where none does and 9 where nothing is held, and 8 is never

@@ -8,8 +8,8 @@ use Rattle.format.specs.Bytes.{Bytes}
 use Rattle.format.specs.Characters.{chars}
 use Rattle.format.proofs.Lists.{rest_is}
 use Rattle.format.proofs.Typed.{the}
-use Rattle.unicode.specs.Ends.{lost_back}
-use Rattle.unicode.proofs.LostEnds.{front_inside, back_inside}
+use Rattle.code_points.specs.Ends.{lost_back}
+use Rattle.code_points.proofs.LostEnds.{front_inside, back_inside}
 use Rattle.escape.proofs.ValueParts.{cuts}
 use Rattle.escape.proofs.values.cut.Statement.{statement}
 use Rattle.escape.proofs.values.cut.Tie as tie
