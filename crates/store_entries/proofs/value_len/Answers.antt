@@ -1,0 +1,14 @@
+-- `store_entries::value_len` meets its contract. Assumes nothing.
+use mathlib.Core.Path.{sym, ◌∙◌}
+use Prim.Native.Nat.{◌-◌}
+use lib.Seq.{get_or-drop}
+use Rattle.store_entries.proofs.EntryShape.{value_at}
+use Rattle.store_entries.proofs.value_len.Goals as goal
+
+pub returns : goal.returns
+returns c =
+    let args = c.args in (
+      c.two_bytes.ensures.0 ∙ sym (value_at args.s.now args.at),
+      c.two_bytes.ensures.2,
+      rw (get_or-drop args.at args.s.now 1 0) c.two_bytes.ensures.1,
+    )
