@@ -1,8 +1,8 @@
 -- Where the entries of a name stand among those laid out in the order of their names: `find_group` counts the bytes before them, theirs,
 -- and how many they are. Assumes nothing.
 use Prim.Native.Nat.{ℕ}
-use mathlib.Core.Path.{◌≡◌, refl, sym, ap, ◌∙◌}
-use mathlib.Core.Bool.{Bool, true, false}
+use mathlib.Core.Path.{◌≡◌, refl, ap, ◌∙◌}
+use mathlib.Core.Bool.{true, false}
 use mathlib.Core.List.{List, map}
 use lib.ListN.{length, length-map}
 use Rattle.format.specs.Bytes.{Bytes, total, texts, same, before}

@@ -2,7 +2,6 @@
 -- a hit is row-hit, a miss row-miss.
 -- Assumes nothing.
 use mathlib.Core.Path.{◌≡◌, sym, ◌∙◌}
-use Prim.Native.Nat.{◌-◌}
 use native.Mathlib.Omega.{arith}
 use Rattle.characters.specs.Coded.{lead_row}
 use Rattle.characters.proofs.Coding.{row-lead, row_hit, row_miss, row_none}

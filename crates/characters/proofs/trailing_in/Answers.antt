@@ -1,7 +1,7 @@
 -- `characters::trailing_in` meets its contract. The invariant: k bytes are within the first k ranges, and those left count
 -- what is left.
 -- Assumes nothing.
-use Prim.Native.Nat.{◌+◌, ◌-◌, ◌*◌}
+use Prim.Native.Nat.{◌+◌, ◌*◌}
 use native.Mathlib.Nat.{add-zero}
 use native.Mathlib.Omega.{arith}
 use lib.ListN.{drop}

@@ -1,7 +1,7 @@
 -- `octets::zero_fill` meets its contract. The invariant: i zeros, then the bytes from i on as they were. Assumes nothing.
 use mathlib.Core.Path.{◌≡◌, refl, ap, ◌∙◌}
 use mathlib.Core.List.{List, ◌++◌, append-nil}
-use Prim.Native.Nat.{ℕ, ◌-◌}
+use Prim.Native.Nat.{ℕ}
 use native.Mathlib.Omega.{arith}
 use lib.ListN.{length, drop, set, replicate, length-set, drop_of_length-le}
 use borrow.Author.Fill.{fill_none, fill_more}

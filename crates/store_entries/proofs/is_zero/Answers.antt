@@ -1,6 +1,5 @@
 -- `store_entries::is_zero` meets its contract. The invariant: all so far were zero, and all from i on are. Assumes nothing.
 use mathlib.Core.Path.{refl, sym, ◌∙◌}
-use Prim.Native.Nat.{◌-◌}
 use native.Mathlib.Omega.{arith}
 use lib.Dec.{eqb}
 use Rattle.store_entries.proofs.Zeros.{all_step, all_end}

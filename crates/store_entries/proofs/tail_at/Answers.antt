@@ -1,5 +1,4 @@
 -- `store_entries::tail_at` meets its contract. Assumes nothing.
-use Prim.Native.Nat.{◌-◌}
 use native.Mathlib.Omega.{arith}
 use Rattle.store_entries.proofs.EntryShape.{within_numbers, within_parts, tail_part}
 use Rattle.store_entries.proofs.tail_at.Goals as goal

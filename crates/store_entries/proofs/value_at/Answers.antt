@@ -1,5 +1,4 @@
 -- `store_entries::value_at` meets its contract. Assumes nothing.
-use Prim.Native.Nat.{◌-◌}
 use native.Mathlib.Omega.{arith}
 use Rattle.store_entries.proofs.EntryShape.{within_numbers, within_parts, value_part_lem}
 use Rattle.store_entries.proofs.value_at.Goals as goal

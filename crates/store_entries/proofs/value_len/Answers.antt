@@ -1,6 +1,5 @@
 -- `store_entries::value_len` meets its contract. Assumes nothing.
 use mathlib.Core.Path.{sym, ◌∙◌}
-use Prim.Native.Nat.{◌-◌}
 use lib.Seq.{get_or-drop}
 use Rattle.store_entries.proofs.EntryShape.{value_at}
 use Rattle.store_entries.proofs.value_len.Goals as goal

@@ -1,6 +1,5 @@
 -- `octets::compare::before` meets its contract. The invariant: the order is that of the texts from i on. Assumes nothing.
 use mathlib.Core.Path.{refl, sym, ◌∙◌}
-use Prim.Native.Nat.{◌-◌}
 use native.Mathlib.Omega.{arith}
 use Rattle.octets.proofs.Comparing.{before_ends, before_differs, before_step}
 use Rattle.octets.proofs.compare.before.Goals as goal

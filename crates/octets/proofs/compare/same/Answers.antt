@@ -1,7 +1,6 @@
 -- `octets::compare::same` meets its contract. Texts of one length are the same where one begins with the other; the invariant:
 -- they are so from i on. Assumes nothing.
 use mathlib.Core.Path.{sym, ◌∙◌}
-use Prim.Native.Nat.{◌-◌}
 use native.Mathlib.Omega.{arith}
 use lib.ListN.{drop}
 use Rattle.octets.proofs.Comparing.{same_begins, same_lengths, begins_step, begins_differs, begins_end}

@@ -1,7 +1,6 @@
 -- `octets::compare::same_letters` meets its contract: it is `same` of the texts in lower case, and so is the invariant. Assumes nothing.
 use mathlib.Core.Path.{sym, ◌∙◌}
 use mathlib.Core.List.{map}
-use Prim.Native.Nat.{◌-◌}
 use native.Mathlib.Omega.{arith}
 use lib.ListN.{drop, length-map}
 use Rattle.format.specs.Bytes.{lower}

@@ -1,5 +1,4 @@
 -- `octets::finding::find_byte_plain` meets its contract. The invariant: the place is i and what is found behind i. Assumes nothing.
-use Prim.Native.Nat.{◌-◌}
 use native.Mathlib.Omega.{arith}
 use Rattle.octets.proofs.Find.{up_to_found, up_to_other, up_to_end}
 use Rattle.octets.proofs.finding.find_byte_plain.Goals as goal

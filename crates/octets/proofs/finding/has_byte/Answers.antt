@@ -1,6 +1,5 @@
 -- `octets::finding::has_byte` meets its contract. The invariant: hit says whether one of the first k bytes is c. Assumes nothing.
 use mathlib.Core.Path.{sym, ap, ◌∙◌}
-use Prim.Native.Nat.{◌-◌}
 use native.Mathlib.Omega.{arith}
 use lib.ListN.{get_or}
 use lib.Dec.{eqb}
@@ -21,7 +20,7 @@ loop-k-preserved c =
     let s = args.block.now in (
       omega arith,
       elim c.if-block-k.branch [
-        then-block-k w ↦ w.hit-is ∙ any_hit (eqb args.c) s k (omega arith) (eq-eqb args.c (get_or s k 0) (sym w.if-block-k.true))
+        | then-block-k w ↦ w.hit-is ∙ any_hit (eqb args.c) s k (omega arith) (eq-eqb args.c (get_or s k 0) (sym w.if-block-k.true))
         | else-block-k w ↦ w.hit-is ∙ c.loop-k.invariant.1 ∙ any_miss (eqb args.c) s k (omega arith) (ne_eqb args.c (get_or s k 0) (λ e. w.if-block-k.false (sym e)))
       ],
     )

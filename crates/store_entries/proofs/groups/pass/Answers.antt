@@ -1,6 +1,6 @@
 -- `store_entries::groups::pass` meets its contract. The invariant is `Walk`. Assumes nothing.
 use mathlib.Core.Path.{sym, ◌∙◌}
-use Prim.Native.Nat.{◌+◌, ◌-◌}
+use Prim.Native.Nat.{◌+◌}
 use native.Mathlib.Omega.{arith}
 use lib.ListN.{drop}
 use Rattle.store_entries.specs.Passing.{passed_over}

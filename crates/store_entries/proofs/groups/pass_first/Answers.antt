@@ -1,6 +1,5 @@
 -- `store_entries::groups::pass_first` meets its contract. The invariant is `First`. Assumes nothing.
 use mathlib.Core.Path.{sym}
-use Prim.Native.Nat.{◌-◌}
 use native.Mathlib.Omega.{arith}
 use Rattle.store_entries.proofs.EntryWalk.{first_start, first_end, first_on, first_within, first_numbers}
 use Rattle.store_entries.proofs.groups.pass_first.Goals as goal
