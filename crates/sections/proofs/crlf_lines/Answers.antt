@@ -3,18 +3,12 @@ use mathlib.Core.Path.{sym, ap, ◌∙◌}
 use Prim.Native.Nat.{ℕ}
 use native.Mathlib.Omega.{arith}
 use lib.ListN.{length}
-use borrow.Author.Rules.{rules}
 use lib.Dec.{ltb}
 use Rattle.format.specs.Bytes.{crlf_text}
-use Rattle.format.proofs.Typed.{the}
 use Rattle.sections.proofs.FirstCut.{occurs_place}
-use Rattle.sections.proofs.crlf_lines.Statement.{statement}
-use Rattle.sections.proofs.crlf_lines.Tie as tie
+use Rattle.sections.proofs.crlf_lines.Goals as goal
 
-returns : tie.Need-returns
+pub returns : goal.returns
 returns c =
-    let s = (the tie.Start (search)).args.section.now in
+    let s = c.args.section.now in
     ap (λ (n : ℕ). ltb n (length s)) c.find.ensures ∙ sym (occurs_place crlf_text s (omega arith))
-
-pub crlf-lines-spec : {M : Type 1} → statement M
-crlf-lines-spec = tie.close (tie.spec (λ c. search rules) (λ c κs. search rules) returns)
