@@ -4,12 +4,8 @@ use Rattle.format.specs.Bytes.{any}
 use Rattle.format.specs.Characters.{is_ascii_control}
 use Rattle.format.specs.Validators.{reserved_in_name, reserved_in_param_name, reserved_in_param_value}
 use Rattle.store_entry_check.specs.Weights.{graded, weight, weights_from, weights}
-use Rattle.store_entry_check.proofs.weights.table.Statement.{statement}
-use Rattle.store_entry_check.proofs.weights.table.Tie as tie
+use Rattle.store_entry_check.proofs.weights.table.Goals as goal
 
-returns : tie.Need-returns
+pub returns : goal.returns
 unfolding weights weights_from weight graded is_ascii_control reserved_in_name reserved_in_param_name reserved_in_param_value any
 returns c = refl
-
-pub table-spec : {M : Type 1} → statement M
-table-spec = tie.close (tie.spec returns)
