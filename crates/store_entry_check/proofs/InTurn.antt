@@ -2,23 +2,23 @@
 -- others decide. Assumes nothing.
 use Prim.Native.Nat.{suc}
 use mathlib.Core.Path.{◌≡◌, refl, sym, ap, ◌∙◌}
-use mathlib.Core.Bool.{Bool, true, false, not, ◌&&◌}
+use mathlib.Core.Bool.{Bool, true, false, ◌&&◌}
 use mathlib.Core.List.{[], ◌∷◌}
 use native.Mathlib.Omega.{arith}
 use lib.Dec.{eqb}
 use lib.ListN.{length}
-use borrow.Author.Tests.{eq-eqb, ne_eqb, not-true, not-false}
+use borrow.Author.Tests.{eq-eqb, ne_eqb}
 use Rattle.format.specs.Bytes.{Bytes, is_empty}
 use Rattle.format.specs.Refusals.{numbers, Check, passes}
 use Rattle.format.specs.declared.Numbers.{Numbers}
 use Rattle.format.proofs.Steps.{passes_number}
 
 -- r is what the first test gave
-pub fails : {a : Bool} (b r : Bool) → r ≡ a → not r ≡ true → false ≡ (a && b)
-fails b r e h = ap (λ (x : Bool). x && b) (sym (not-true r h) ∙ e)
+pub fails : {a : Bool} (b r : Bool) → r ≡ a → r ≡ false → false ≡ (a && b)
+fails b r e h = ap (λ (x : Bool). x && b) (sym h ∙ e)
 
-pub goes_on : {a : Bool} (b r : Bool) → r ≡ a → not r ≡ false → b ≡ (a && b)
-goes_on b r e h = ap (λ (x : Bool). x && b) (sym (not-false r h) ∙ e)
+pub goes_on : {a : Bool} (b r : Bool) → r ≡ a → r ≡ true → b ≡ (a && b)
+goes_on b r e h = ap (λ (x : Bool). x && b) (sym h ∙ e)
 
 -- a validator's number says whether the check passes
 pub number_passes : (n : Numbers) (c : Check) → n ≡ numbers c → eqb n.number 0 ≡ passes c

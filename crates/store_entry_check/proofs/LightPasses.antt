@@ -1,16 +1,15 @@
 -- What is light passes the validators and is UTF-8; an empty name passes none. Assumes nothing.
-use Prim.Native.Nat.{ℕ, ◌<◌}
 use mathlib.Core.Path.{◌≡◌, refl}
 use mathlib.Core.Bool.{true, false}
 use native.Mathlib.Omega.{arith}
 use lib.ListN.{length}
 use borrow.Author.Tests.{le-leb}
-use Rattle.format.specs.Bytes.{Bytes, any, total}
-use Rattle.format.specs.Characters.{is_ascii_control, is_utf8}
+use Rattle.format.specs.Bytes.{Bytes}
+use Rattle.format.specs.Characters.{is_ascii_control}
 use Rattle.format.specs.Refusals.{refuse_if, at_most, passes, ◌>>◌}
 use Rattle.format.specs.Validators.{reserved_in_name, reserved_in_param_name, reserved_in_param_value, header_name, header_value, content_value, param_name, param_value}
 use Rattle.validate.proofs.EmptyText.{empty_is, empty_not}
-use Rattle.store_entry_check.specs.Weights.{weight, is_light}
+use Rattle.store_entry_check.specs.Weights.{is_light}
 use Rattle.store_entry_check.proofs.Light.{light_control, light_value, light_param_name, light_name, none_light, utf8_light, light_short, light_weight}
 use Rattle.store_entry_check.specs.Kinds.{name_check, value_check}
 use Rattle.store_entry_check.specs.declared.kinds.Kind.{Kind}
