@@ -2,40 +2,36 @@
 use mathlib.Core.Path.{refl}
 use Prim.Native.Nat.{◌-◌}
 use native.Mathlib.Omega.{arith}
-use borrow.Author.Rules.{rules}
 use borrow.Author.Tests.{le-leb, lt-leb}
 use Rattle.format.specs.Limits.{max_headers, max_contents}
-use Rattle.format.proofs.Typed.{the}
 use Rattle.store_check.specs.Holding.{numbers_hold}
-use Rattle.store_check.proofs.numbers_hold.Statement.{statement}
-use Rattle.store_check.proofs.numbers_hold.Tie as tie
+use Rattle.store_check.proofs.numbers_hold.Goals as goal
 
-returns : tie.Need-returns
+pub returns-then-store-lt256 : goal.returns-then-store-lt256
 unfolding numbers_hold
-returns c =
-    let start : tie.Start = search in
-    let store = start.args.store in
+returns-then-store-lt256 c =
+    let store = c.args.store in
     rw (lt-leb 256 store (omega arith)) refl
 
-returns-2 : tie.Need-returns-2
+pub returns-then-m-gt256 : goal.returns-then-m-gt256
 unfolding numbers_hold
-returns-2 c =
-    let m = (the tie.Start (search)).args.m in
-    let store = (the tie.Start (search)).args.store in
+returns-then-m-gt256 c =
+    let m = c.args.m in
+    let store = c.args.store in
     rw (le-leb 256 store (omega arith), lt-leb m.typelen 256 (omega arith)) refl
 
-returns-3 : tie.Need-returns-3
+pub returns-then-store-m : goal.returns-then-store-m
 unfolding numbers_hold
-returns-3 c =
-    let m = (the tie.Start (search)).args.m in
-    let store = (the tie.Start (search)).args.store in
+returns-then-store-m c =
+    let m = c.args.m in
+    let store = c.args.store in
     rw (le-leb 256 store (omega arith), le-leb m.typelen 256 (omega arith), lt-leb m.headerlen (store - 256) (omega arith)) refl
 
-returns-4 : tie.Need-returns-4
+pub returns-then-store-m-2 : goal.returns-then-store-m-2
 unfolding numbers_hold
-returns-4 c =
-    let m = (the tie.Start (search)).args.m in
-    let store = (the tie.Start (search)).args.store in
+returns-then-store-m-2 c =
+    let m = c.args.m in
+    let store = c.args.store in
     rw (
       le-leb 256 store (omega arith),
       le-leb m.typelen 256 (omega arith),
@@ -43,11 +39,11 @@ returns-4 c =
       lt-leb m.contentlen (store - 256 - m.headerlen) (omega arith),
     ) refl
 
-returns-5 : tie.Need-returns-5
+pub returns-then-m-gt-MAX_HEADERS : goal.returns-then-m-gt-MAX_HEADERS
 unfolding numbers_hold
-returns-5 c =
-    let m = (the tie.Start (search)).args.m in
-    let store = (the tie.Start (search)).args.store in
+returns-then-m-gt-MAX_HEADERS c =
+    let m = c.args.m in
+    let store = c.args.store in
     rw (
       le-leb 256 store (omega arith),
       le-leb m.typelen 256 (omega arith),
@@ -56,11 +52,11 @@ returns-5 c =
       lt-leb m.headers max_headers (omega arith),
     ) refl
 
-returns-6 : tie.Need-returns-6
+pub returns-then-m-gt-MAX_CONTENT_HEADERS : goal.returns-then-m-gt-MAX_CONTENT_HEADERS
 unfolding numbers_hold
-returns-6 c =
-    let m = (the tie.Start (search)).args.m in
-    let store = (the tie.Start (search)).args.store in
+returns-then-m-gt-MAX_CONTENT_HEADERS c =
+    let m = c.args.m in
+    let store = c.args.store in
     rw (
       le-leb 256 store (omega arith),
       le-leb m.typelen 256 (omega arith),
@@ -70,11 +66,11 @@ returns-6 c =
       lt-leb m.contents max_contents (omega arith),
     ) refl
 
-returns-7 : tie.Need-returns-7
+pub returns : goal.returns
 unfolding numbers_hold
-returns-7 c =
-    let m = (the tie.Start (search)).args.m in
-    let store = (the tie.Start (search)).args.store in
+returns c =
+    let m = c.args.m in
+    let store = c.args.store in
     rw (
       le-leb 256 store (omega arith),
       le-leb m.typelen 256 (omega arith),
@@ -83,8 +79,3 @@ returns-7 c =
       le-leb m.headers max_headers (omega arith),
       le-leb m.contents max_contents (omega arith),
     ) refl
-
-pub numbers-hold-spec : {M : Type 1} → statement M
-numbers-hold-spec =
-    tie.close
-    (tie.spec returns returns-2 returns-3 (λ c. search rules) returns-4 returns-5 returns-6 returns-7)
