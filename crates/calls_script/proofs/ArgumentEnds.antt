@@ -1,15 +1,14 @@
 -- Where the arguments of a call end, by its form. Assumes nothing.
 use Prim.Native.Nat.{ℕ, zero, suc, ◌+◌, ◌-◌, ◌≤◌, ◌<◌}
-use mathlib.Core.Path.{◌≡◌, refl, sym, ap, subst, ◌∙◌}
-use mathlib.Core.Bool.{Bool, true, false, ◌&&◌}
+use mathlib.Core.Path.{◌≡◌, refl, sym, ap, ◌∙◌}
+use mathlib.Core.Bool.{true, false}
 use mathlib.Core.List.{List, [], ◌∷◌}
 use native.Mathlib.Omega.{arith}
-use lib.Dec.{leb}
 use lib.ListN.{length, drop, get_or, length-drop, drop_of_length-le, get_or-map}
 use lib.Seq.{drop-drop}
 use borrow.Author.Tests.{le-leb, lt-leb}
 use Rattle.format.specs.Bytes.{Bytes}
-use Rattle.calls_script.specs.Script.{number_in, whole, argument_size, behind, both_whole, both_size, header_whole, header_size, Form, one, two, header, unknown, forms, form_of, complete, size_of, kind_of, end_of}
+use Rattle.calls_script.specs.Script.{whole, argument_size, behind, both_whole, both_size, header_whole, header_size, Form, one, two, header, unknown, forms, form_of, complete, size_of, kind_of, end_of}
 use Rattle.calls_script.proofs.ArgumentPlaces.{false_left, false_right, end_none, behind_is, size_within}
 
 -- An argument, and what is behind it.

@@ -12,7 +12,7 @@ use lib.Seq.{drop-cons, drop-drop}
 use Rattle.format.specs.Bytes.{Bytes}
 use Rattle.format.proofs.Lists.{below, clash}
 use Rattle.format.proofs.Rulesets.{tests}
-use Rattle.calls_script.specs.Script.{whole, argument_size, both_whole, both_size, header_whole, header_size, Form, one, two, header, unknown, form_of, complete, size_of, called, calls_from, calls_in, end_of}
+use Rattle.calls_script.specs.Script.{argument_size, both_whole, both_size, header_whole, header_size, Form, one, two, header, unknown, form_of, complete, size_of, called, calls_from, calls_in, end_of}
 use Rattle.calls_script.proofs.ArgumentPlaces.{size_within, some_end, none_end}
 use Rattle.calls_script.proofs.ArgumentEnds.{nothing_whole}
 

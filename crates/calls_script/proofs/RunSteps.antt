@@ -1,10 +1,10 @@
 -- The contracts of the calls are the steps of a run (crates/format/specs/Runs.antt). A call whose contract said less would be no step.
 -- Assumes nothing.
 use mathlib.Core.Path.{◌≡◌, refl, sym, subst}
-use mathlib.Core.Bool.{Bool, true, false, false≢true}
-use mathlib.Core.List.{List, [], ◌∷◌, ◌++◌}
+use mathlib.Core.Bool.{true, false, false≢true}
+use mathlib.Core.List.{List, ◌∷◌, ◌++◌}
 use mathlib.Core.Logic.{⊎_elim}
-use mathlib.Core.Option.{Option, none, some}
+use mathlib.Core.Option.{Option}
 use Rattle.format.specs.Bytes.{Bytes}
 use Rattle.format.specs.Message.{LoneHeader}
 use Rattle.format.specs.Calls.{Call, Lends, head_alone, lends, set_body, add_header_obj}

@@ -1,13 +1,12 @@
 -- An entry put into a message that is held: by what `replace` answers and writes, the call does what the answer asks for.
 -- Assumes nothing.
-use Prim.Native.Nat.{ℕ, suc, ◌+◌, ◌-◌, ◌≤◌}
+use Prim.Native.Nat.{ℕ, ◌+◌, ◌-◌, ◌≤◌}
 use mathlib.Core.Path.{◌≡◌, refl, sym, ap, ◌∙◌}
-use mathlib.Core.Bool.{true}
 use mathlib.Core.List.{List, [], ◌∷◌, ◌++◌}
 use native.Mathlib.Omega.{arith}
 use lib.Dec.{ltb}
-use lib.ListN.{length, take}
-use Rattle.format.specs.Bytes.{Bytes, if◌then◌else◌, total, texts, over}
+use lib.ListN.{length}
+use Rattle.format.specs.Bytes.{Bytes, if◌then◌else◌, total, over}
 use Rattle.format.specs.Refusals.{numbers}
 use Rattle.format.specs.Message.{Entry, Header, Message, entry, need_entry, need_header, need_alone, need}
 use Rattle.format.specs.Calls.{room, if_room, with_headers, with_contents}

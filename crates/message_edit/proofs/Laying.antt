@@ -1,17 +1,17 @@
 -- The head store with an entry spliced in is the layout of the message with that entry. Assumes nothing.
-use Prim.Native.Nat.{ℕ, suc, ◌+◌, ◌-◌, ◌≤◌}
+use Prim.Native.Nat.{ℕ, ◌+◌, ◌-◌}
 use mathlib.Core.Path.{◌≡◌, refl, sym, ap, ◌∙◌}
 use mathlib.Core.Bool.{Bool, true, false}
 use mathlib.Core.List.{List, [], ◌∷◌, ◌++◌, append_assoc, append-nil}
 use mathlib.Core.Option.{none}
 use native.Mathlib.Omega.{arith}
 use lib.Dec.{ltb}
-use lib.ListN.{length, take, drop, replicate, length-append, length-replicate}
+use lib.ListN.{length, take, replicate, length-append, length-replicate}
 use Rattle.format.specs.Bytes.{Bytes, if◌then◌else◌, total, texts, over}
-use Rattle.format.specs.Refusals.{Out, accepted, refused, numbers, refuse_if, ◌>>◌, no_room}
-use Rattle.format.specs.Message.{Entry, Header, Message, entry, need_entry, need_header, need_alone, need, valid}
+use Rattle.format.specs.Refusals.{accepted, numbers, refuse_if, ◌>>◌, no_room}
+use Rattle.format.specs.Message.{Entry, Header, Message, need_entry, need_header, need, valid}
 use Rattle.format.specs.Calls.{room, if_room, with_headers, with_contents}
-use Rattle.format.specs.Layout.{Lent, Holds, entry_bytes, layout_entry, layout_header, layout, record_of}
+use Rattle.format.specs.Layout.{layout_entry, layout_header, layout, record_of}
 use Rattle.format.specs.Lending.{head_lent, laid_in, leaves}
 use Rattle.format.specs.declared.Numbers.{Numbers}
 use Rattle.format.specs.declared.CpimMessage.{CpimMessage}
@@ -22,7 +22,7 @@ use Rattle.format.proofs.Messages.Layout.{headers_length, entries_length, conten
 use Rattle.format.proofs.Messages.Parts.{message_parts}
 use Rattle.store_splice.specs.Spliced.{spliced, Parted}
 use Rattle.store_splice.proofs.Splicing.{section_spliced}
-use Rattle.message_edit.specs.Edits.{Does, Spelt}
+use Rattle.message_edit.specs.Edits.{Does}
 
 -- Room is judged, and the entry laid: what the record and the store then are is what the answer asks for.
 module _ (m r : CpimMessage) (head after : Bytes) (n : Numbers) (k : Message) where
