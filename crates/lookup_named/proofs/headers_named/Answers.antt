@@ -1,0 +1,53 @@
+-- `lookup_named::headers_named` meets its contract. Assumes nothing.
+use mathlib.Core.Path.{◌≡◌, sym, ◌∙◌}
+use mathlib.Core.Bool.{true}
+use Prim.Native.Nat.{◌+◌, ◌≤◌}
+use native.Mathlib.Omega.{arith}
+use lib.ListN.{length}
+use Rattle.format.specs.Characters.{is_utf8}
+use Rattle.store_check.specs.Holding.{message_holds}
+use Rattle.lookup_named.proofs.Grouping.{none_unheld, none_unnamed, named_within, named_listed}
+use Rattle.lookup_named.proofs.headers_named.Goals as goal
+
+pub returns-then-not-message_holds : goal.returns-then-not-message_holds
+returns-then-not-message_holds c =
+    let args = c.args in
+    none_unheld args.m args.head.now args.name.now (sym c.message_holds.ensures ∙ c.if-not-message_holds.true)
+
+pub returns-then-not-is_utf8 : goal.returns-then-not-is_utf8
+returns-then-not-is_utf8 c =
+    let args = c.args in
+    λ o _. none_unnamed args.name.now (sym c.is_utf8.ensures ∙ c.if-not-is_utf8.true) o
+
+pub headers_of-g-requires : goal.headers_of-g-requires
+headers_of-g-requires c =
+    let holds : message_holds c.args.m c.args.head.now ≡ true = sym c.message_holds.ensures ∙ c.if-not-message_holds.false in
+    holds
+
+pub overflow_add-from : goal.overflow_add-from
+overflow_add-from c =
+    let holds : message_holds c.args.m c.args.head.now ≡ true = sym c.message_holds.ensures ∙ c.if-not-message_holds.false in
+    let within : 256 + (c.headers_of-g.result.at + c.headers_of-g.result.size) ≤ length c.args.head.now = let args = c.args in
+    named_within args.m args.head.now args.name.now _ _ _ holds c.headers_of-g.ensures in
+    omega (arith, within)
+
+pub overflow_add-to : goal.overflow_add-to
+overflow_add-to c =
+    let holds : message_holds c.args.m c.args.head.now ≡ true = sym c.message_holds.ensures ∙ c.if-not-message_holds.false in
+    let within : 256 + (c.headers_of-g.result.at + c.headers_of-g.result.size) ≤ length c.args.head.now = let args = c.args in
+    named_within args.m args.head.now args.name.now _ _ _ holds c.headers_of-g.ensures in
+    omega (arith, within)
+
+pub slice_bounds-result-end-2 : goal.slice_bounds-result-end-2
+slice_bounds-result-end-2 c =
+    let holds : message_holds c.args.m c.args.head.now ≡ true = sym c.message_holds.ensures ∙ c.if-not-message_holds.false in
+    let within : 256 + (c.headers_of-g.result.at + c.headers_of-g.result.size) ≤ length c.args.head.now = let args = c.args in
+    named_within args.m args.head.now args.name.now _ _ _ holds c.headers_of-g.ensures in
+    omega (arith, within)
+
+pub returns : goal.returns
+returns c =
+    let holds : message_holds c.args.m c.args.head.now ≡ true = sym c.message_holds.ensures ∙ c.if-not-message_holds.false in
+    let utf8 : is_utf8 c.args.name.now ≡ true = sym c.is_utf8.ensures ∙ c.if-not-is_utf8.false in
+    let args = c.args in
+    named_listed args.m args.head.now args.name.now _ _ _ holds c.headers_of-g.ensures utf8
