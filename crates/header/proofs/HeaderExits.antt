@@ -14,7 +14,7 @@ use Rattle.format.specs.Validators.{header_value, utf8}
 use Rattle.format.specs.Message.{LoneHeader, need_alone}
 use Rattle.format.specs.Calls.{room, alone_of, if_room_alone, new_header, with_param}
 use Rattle.format.specs.Characters.{is_utf8}
-use Rattle.format.specs.Layout.{HoldsAlone, HeldAlone, header, layout_alone, header_of, empty_header}
+use Rattle.format.specs.Layout.{HoldsAlone, HeldAlone, layout_alone, header_of, empty_header}
 use Rattle.format.specs.Lending.{LentHeader, header_numbers, laid_alone, makes_header, MadeHeader, leaves_header, ParamSet}
 use Rattle.format.specs.declared.Numbers.{Numbers}
 use Rattle.format.specs.declared.HeaderAnswer.{HeaderAnswer}
