@@ -2,12 +2,11 @@
 -- way it has done what the definition asks for, whatever record and stores hold. Assumes nothing.
 use mathlib.Core.Path.{◌≡◌, refl, sym, ap, ◌∙◌, subst}
 use mathlib.Core.Bool.{Bool, true, false, not, ◌&&◌}
-use mathlib.Core.List.{List, []}
 use mathlib.Core.Option.{Option, none, some}
 use mathlib.Core.Logic.{⊎_elim}
 use Rattle.format.specs.Bytes.{Bytes, all}
 use Rattle.format.specs.Characters.{is_utf8}
-use Rattle.format.specs.Refusals.{Out, accepted, refused, numbers, table, Check, pass, passes, refuse_if, not_utf8, nothing_held, ◌>>◌}
+use Rattle.format.specs.Refusals.{refused, numbers, table, pass, passes, refuse_if, not_utf8, nothing_held, ◌>>◌}
 use Rattle.format.specs.Message.{Message}
 use Rattle.format.specs.Calls.{Call, arguments, handed_in, change, answer}
 use Rattle.format.specs.Layout.{Lent, Holds, Held, message, nothing}

@@ -7,10 +7,10 @@ use mathlib.Core.List.{List, [], ◌∷◌, ◌++◌, append_assoc}
 use native.Mathlib.Omega.{arith}
 use lib.ListN.{length}
 use Rattle.format.specs.Bytes.{Bytes}
-use Rattle.format.specs.Limits.{max_headers, max_contents}
+use Rattle.format.specs.Limits.{max_headers}
 use Rattle.format.specs.Refusals.{Refusal, table, ◌carrying◌, Out, at_most, ◌>>◌}
 use Rattle.format.specs.Message.{Entry, Header, Message, name_of, entry_name, entry, insert, without, put, ascending, need_header, need_entry}
-use Rattle.format.specs.Calls.{header_count, content_count, if_room, with_headers, with_contents, append}
+use Rattle.format.specs.Calls.{header_count, if_room, with_headers, with_contents, append}
 use Rattle.format.specs.Layout.{Lent, Holds}
 use Rattle.format.specs.Lending.{head_lent, lengths}
 use Rattle.format.specs.declared.Numbers.{Numbers}
