@@ -8,10 +8,10 @@ ghost use Rattle.format.specs.SecondReading.{spaceless_param};
 ghost use Rattle.store_entries.specs.Stored.{shaped, shaped_all, stored_in, entries_in};
 ghost use Rattle.roundtrip.specs.Clauses.{as_entry, meets, params_stand, stored_spaceless, passing};
 
+use code_points::ends::clear_ends;
 use octets::compare::same_letters;
 use octets::finding::find_byte;
 use store_entries::{entry_len, name_at, param_count, tail_at, value_at};
-use code_points::ends::clear_ends;
 
 // What a clause asks of an entry: of a header, a content header or, last, of a parameter.
 #[derive(Clone, Copy)]

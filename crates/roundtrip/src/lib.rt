@@ -17,9 +17,9 @@ ghost use Rattle.roundtrip.specs.Clauses.{params_stand, passing};
 ghost use Rattle.roundtrip.specs.Loss.{none_lost, params_asked, name_asked, early, late, loss_held_by, loss_held, whole_held, whole_held_rfc, ReadsBack, ReadsBackRfc};
 
 use crate::clauses::{Clause, count_passing, count_spaceless};
+use code_points::ends::clear_ends;
 use format::{CpimMessage, Manner};
 use store_check::message_holds;
-use code_points::ends::clear_ends;
 use utf8::is_utf8;
 
 // The clause that fails first, by its number in specs/Loss.antt, 1 to 7; 0 where none does and 9 where nothing is held, and 8 is never
