@@ -1,0 +1,30 @@
+-- `lookup::alone::value` meets its contract. Assumes nothing.
+use mathlib.Core.Path.{◌≡◌, sym, ◌∙◌}
+use mathlib.Core.Bool.{true}
+use native.Mathlib.Omega.{arith}
+use Rattle.store_check.specs.Holding.{header_holds}
+use Rattle.lookup.proofs.LoneHeader.{no_value, value_within, size_within, value_found}
+use Rattle.lookup.proofs.alone.value.Goals as goal
+
+pub returns-then-not-header_holds : goal.returns-then-not-header_holds
+returns-then-not-header_holds c =
+    let args = c.args in
+    no_value args.h args.store.now (sym c.header_holds.ensures ∙ c.if-not-header_holds.true) c.absent.ensures
+
+pub overflow_add-h : goal.overflow_add-h
+overflow_add-h c =
+    let holds : header_holds c.args.h c.args.store.now ≡ true = sym c.header_holds.ensures ∙ c.if-not-header_holds.false in
+    let args = c.args in
+    omega (arith, value_within args.h args.store.now holds, size_within args.h args.store.now holds)
+
+pub part-requires : goal.part-requires
+part-requires c =
+    let holds : header_holds c.args.h c.args.store.now ≡ true = sym c.header_holds.ensures ∙ c.if-not-header_holds.false in
+    let args = c.args in
+    (omega arith, omega (arith, value_within args.h args.store.now holds, size_within args.h args.store.now holds))
+
+pub returns : goal.returns
+returns c =
+    let holds : header_holds c.args.h c.args.store.now ≡ true = sym c.header_holds.ensures ∙ c.if-not-header_holds.false in
+    let args = c.args in
+    value_found args.h args.store.now holds c.part.ensures

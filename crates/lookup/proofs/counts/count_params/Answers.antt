@@ -1,0 +1,37 @@
+-- `lookup::counts::count_params` meets its contract. Assumes nothing.
+use mathlib.Core.Path.{◌≡◌, sym, ◌∙◌}
+use mathlib.Core.Bool.{true}
+use native.Mathlib.Omega.{arith}
+use Rattle.store_check.specs.Holding.{message_holds}
+use Rattle.store_check.proofs.HeldCases.{used_within}
+use Rattle.lookup.proofs.Counting.{none_params, headers_few, headers_in_order, params_counted}
+use Rattle.lookup.proofs.counts.count_params.Goals as goal
+
+pub returns-then-not-message_holds : goal.returns-then-not-message_holds
+returns-then-not-message_holds c =
+    let args = c.args in
+    none_params args.m args.head.now (sym c.message_holds.ensures ∙ c.if-not-message_holds.true)
+
+pub overflow_add-to : goal.overflow_add-to
+overflow_add-to c =
+    let holds : message_holds c.args.m c.args.head.now ≡ true = sym c.message_holds.ensures ∙ c.if-not-message_holds.false in
+    let args = c.args in
+    omega (arith, used_within args.m args.head.now holds)
+
+pub slice_bounds-count_all-end : goal.slice_bounds-count_all-end
+slice_bounds-count_all-end c =
+    let holds : message_holds c.args.m c.args.head.now ≡ true = sym c.message_holds.ensures ∙ c.if-not-message_holds.false in
+    let args = c.args in
+    omega (arith, used_within args.m args.head.now holds)
+
+pub count_all-requires : goal.count_all-requires
+count_all-requires c =
+    let holds : message_holds c.args.m c.args.head.now ≡ true = sym c.message_holds.ensures ∙ c.if-not-message_holds.false in
+    let args = c.args in
+    (headers_in_order args.m args.head.now holds, headers_few args.m args.head.now holds)
+
+pub returns : goal.returns
+returns c =
+    let holds : message_holds c.args.m c.args.head.now ≡ true = sym c.message_holds.ensures ∙ c.if-not-message_holds.false in
+    let args = c.args in
+    params_counted args.m args.head.now holds c.count_all.result c.count_all.ensures
