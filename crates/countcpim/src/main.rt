@@ -3,10 +3,10 @@
 
 #![tactic(auto)]
 
-fn main() {
+fn main(rt: HostRuntime) {
     let mut out = [0u8; 820];
     let end = counting::put_count_lines(&mut out);
-    if !io::write_all(1, &out[..end]) {
-        io::write_all(2, b"countcpim: standard output cannot be written\n");
+    if rt.write_all(&out[..end]).is_err() {
+        let _ = eprintln!(rt; "countcpim: standard output cannot be written");
     }
 }

@@ -2,17 +2,17 @@
 
 #![tactic(auto)]
 
-fn main() {
+fn main(rt: HostRuntime) {
     let mut text = [0u8; 65537];
-    let got = input::read_whole(0, &mut text);
+    let got = input::read_whole(&rt, &mut rt.stdin(), &mut text);
     if !got.whole {
-        io::write_all(2, b"showcpim: standard input cannot be read\n");
+        let _ = eprintln!(rt; "showcpim: standard input cannot be read");
         return;
     }
     let n = got.count;
     let mut out = [0u8; 1712];
     let end = report::show(&text[..n], &mut out);
-    if !io::write_all(1, &out[..end]) {
-        io::write_all(2, b"showcpim: standard output cannot be written\n");
+    if rt.write_all(&out[..end]).is_err() {
+        let _ = eprintln!(rt; "showcpim: standard output cannot be written");
     }
 }
