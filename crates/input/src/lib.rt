@@ -18,7 +18,7 @@ const EINTR: i32 = 4;
 const EAGAIN: i32 = 11;
 
 // What a read says of the input.
-#[derive(Drop)]
+#[derive(Clone, Copy)]
 enum Next {
     More,
     End,
@@ -27,7 +27,7 @@ enum Next {
 }
 
 // How many bytes were read, and whether they are all of the input that there was room for.
-#[derive(Drop)]
+#[derive(Clone, Copy)]
 pub struct Input {
     pub count: usize,
     pub whole: bool,
