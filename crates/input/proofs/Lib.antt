@@ -1,1 +1,1 @@
-mod Signs
+pub mod Filling

@@ -1,13 +1,24 @@
 // Input read whole, for the programs: the end of the input is told from a read that fails, and a read that was interrupted or found
-// nothing ready is made again. Which bytes are read no contract can say.
+// nothing ready is made again. Which bytes the system gives no contract can say.
 
 #![tactic(auto)]
 
-ghost use Rattle.io.specs.Counts.{IsPrefixLen};
-ghost use Rattle.input.specs.Reads.{Says, Passes};
+ghost use Rattle.std.specs.Prelude.{◌≡◌, ◌⊎◌, IsTrue, length, take};
+ghost use Rattle.std.specs.Io.KnownBytes.{Consumes, IsAtEnd};
+ghost use Rattle.input.specs.Reads.{answered, errno, number_of, IsPrefixLen, Passes, Says};
+
+use std::io;
+use std::io::Read;
+use std::thread::yield_now;
+use std::time::Clock;
+
+// errno where a call was interrupted, and where nothing was ready (Linux).
+const EINTR: i32 = 4;
+
+const EAGAIN: i32 = 11;
 
 // What a read says of the input.
-#[derive(Drop)]
+#[derive(Clone, Copy)]
 enum Next {
     More,
     End,
@@ -16,7 +27,7 @@ enum Next {
 }
 
 // How many bytes were read, and whether they are all of the input that there was room for.
-#[derive(Drop)]
+#[derive(Clone, Copy)]
 pub struct Input {
     pub count: usize,
     pub whole: bool,
@@ -26,43 +37,54 @@ pub struct Input {
 fn passes(error: i32) -> bool
     ensures { Passes error result }
 {
-    if error == libc::EINTR {
+    if error == EINTR {
         return true;
     }
-    if error == libc::EAGAIN {
+    if error == EAGAIN {
         return true;
     }
     false
 }
 
-// By what a read answered, and errno where that is negative.
-fn after(got: isize, error: i32) -> Next
-    ensures { Says got error result }
+// The errno of an error, 0 where it has none.
+fn number(error: &io::Error) -> i32
+    ensures { result ≡ number_of error.now }
 {
+    error.raw_os_error().unwrap_or(0)
+}
+
+// By what a read answered, and errno where it failed.
+fn after(read: &io::Result<usize>) -> Next
+    ensures { Says (answered read.now) (errno read.now) result }
+{
+    let got = match read {
+        Ok(got) => *got,
+        Err(error) => {
+            if passes(number(error)) {
+                return Next::Later;
+            }
+            return Next::Failed;
+        }
+    };
     if 0 < got {
         return Next::More;
-    }
-    if got < 0 {
-        if passes(error) {
-            return Next::Later;
-        }
-        return Next::Failed;
     }
     Next::End
 }
 
-// Lets others run, and gives the second that it is now.
-fn pause() -> i64 {
-    libc::sched_yield();
-    let mut second = 0;
-    libc::time(&mut second);
-    second
+// Lets others run, and gives the second that it is now, 0 where the clock cannot be read.
+fn pause(clock: &impl Clock) -> u64 {
+    yield_now();
+    clock.since_1970().map_or(0, |time| time.as_secs())
 }
 
 // Reads until the buffer is full, the input ends, a read fails, or no byte has come for a minute. Gives how many bytes stand at the start
 // of the buffer, and whether they are all of the input that there is room for. The turns only bound the loop.
-pub fn read_whole(fd: i32, buf: &mut [u8]) -> Input
-    ensures { IsPrefixLen result.count buf.new }
+// Where it is known what the reader has left, they are the first of it.
+pub fn read_whole<C: Clock, R: Read>(clock: &C, reader: &mut R, buf: &mut [u8]) -> Input
+    ensures counted { IsPrefixLen result.count buf.new }
+    ensures bytes { Consumes (R.remaining reader.old) (R.remaining reader.new) (take result.count buf.new) }
+    ensures end { IsTrue result.whole → (result.count ≡ length buf.new) ⊎ IsAtEnd (R.remaining reader.new) }
 {
     let mut count = 0;
     let mut second = 0;
@@ -76,11 +98,11 @@ pub fn read_whole(fd: i32, buf: &mut [u8]) -> Input
                 whole: true,
             };
         }
-        let got = libc::read(fd, &mut buf[count..]);
-        let next = after(got, os::errno());
+        let read = reader.read(&mut buf[count..]);
+        let next = after(&read);
+        count += read.unwrap_or(0);
         match next {
             Next::More => {
-                count += io::count(got, &buf[count..]);
                 patience = 60;
             }
             Next::End => {
@@ -96,7 +118,7 @@ pub fn read_whole(fd: i32, buf: &mut [u8]) -> Input
                 };
             }
             Next::Later => {
-                let now = pause();
+                let now = pause(clock);
                 if now != second {
                     if patience == 0 {
                         return Input {

@@ -5,15 +5,15 @@
 #![tactic(auto)]
 
 use format::{CpimHeader, CpimMessage};
-use io::{print_decimal, write_all};
 use lookup::content_headers::content_value;
 use lookup::counts::{count_contents, count_headers};
 use lookup::get_header_value;
 use octets::compare::same;
+use std::io;
 
 // Calls made; accepted; refused by 25 carrying 0; answered otherwise; and those after which something else is held, or
 // something has changed.
-#[derive(Drop)]
+#[derive(Clone, Copy)]
 struct Tally {
     made: u64,
     accepted: u64,
@@ -23,7 +23,7 @@ struct Tally {
 }
 
 fn more(n: u64) -> u64 {
-    std::num::wrapping_add_u64(n, 1)
+    n.wrapping_add(1)
 }
 
 // One more call, by its answer and whether what it left is right.
@@ -60,28 +60,20 @@ fn is_last(m: CpimMessage, head: &[u8], name: &[u8], n: usize, value: &[u8]) -> 
         return false;
     }
     let mut another = false;
-    get_header_value(
-        m,
-        head,
-        name,
-        std::num::wrapping_add_usize(n, 1),
-        &mut another,
-    );
+    get_header_value(m, head, name, n.wrapping_add(1), &mut another);
     !another
 }
 
 // How many values a name has, up to 60.
 fn values_of(m: CpimMessage, head: &[u8], name: &[u8]) -> usize {
-    let mut n = 0;
-    while n < 60 {
+    for n in 0..60 {
         let mut found = false;
         get_header_value(m, head, name, n, &mut found);
         if !found {
             return n;
         }
-        n += 1;
     }
-    n
+    60
 }
 
 // `add_header`: one more header, the last of its name.
@@ -93,7 +85,7 @@ fn try_add(t: Tally, m: CpimMessage, head: [u8; 512]) -> Tally {
     if a.number != 0 {
         return counted(t, a.number, a.carried, same(&work, &head));
     }
-    let one_more = count_headers(a.message, &work) == std::num::wrapping_add_usize(before, 1);
+    let one_more = count_headers(a.message, &work) == before.wrapping_add(1);
     let last = is_last(a.message, &work, b"To", of_name, b"x");
     counted(t, a.number, a.carried, one_more & last)
 }
@@ -117,7 +109,7 @@ fn try_content(t: Tally, m: CpimMessage, head: [u8; 512]) -> Tally {
     if a.number != 0 {
         return counted(t, a.number, a.carried, same(&work, &head));
     }
-    let one_more = count_contents(a.message, &work) == std::num::wrapping_add_usize(before, 1);
+    let one_more = count_contents(a.message, &work) == before.wrapping_add(1);
     let mut found = false;
     let value = content_value(a.message, &work, 0, &mut found);
     let first = same(value, b"x");
@@ -134,10 +126,10 @@ fn try_calls(t: Tally, m: CpimMessage, head: [u8; 512]) -> Tally {
 fn another(old: u8, i: usize) -> u8 {
     let bytes = [0u8, 1, 9, 16, 32, 58, 59, 65, 97, 127, 128, 194, 224, 255];
     if i == 14 {
-        return std::num::wrapping_add_u8(old, 1);
+        return old.wrapping_add(1);
     }
     if 14 < i {
-        return std::num::wrapping_sub_u8(old, 1);
+        return old.wrapping_sub(1);
     }
     bytes[i]
 }
@@ -148,22 +140,18 @@ fn try_place(t: Tally, m: CpimMessage, head: [u8; 512], at: usize) -> Tally {
         return t;
     }
     let mut sum = t;
-    let mut i = 0;
-    while i < 16 {
+    for i in 0..16 {
         let mut work = head;
         work[at] = another(head[at], i);
         sum = try_calls(sum, m, work);
-        i += 1;
     }
     sum
 }
 
 fn try_places(t: Tally, m: CpimMessage, head: [u8; 512]) -> Tally {
     let mut sum = t;
-    let mut at = 0;
-    while at < 512 {
+    for at in 0..512 {
         sum = try_place(sum, m, head, at);
-        at += 1;
     }
     sum
 }
@@ -195,24 +183,16 @@ fn with_number(m: CpimMessage, i: usize, n: usize) -> CpimMessage {
 // Every number up to 300, and the largest ones, in the i-th place of the record.
 fn try_number(t: Tally, m: CpimMessage, head: [u8; 512], i: usize) -> Tally {
     let mut sum = t;
-    let mut n: usize = 0;
-    while n < 302 {
-        sum = try_calls(
-            sum,
-            with_number(m, i, std::num::wrapping_sub_usize(n, 2)),
-            head,
-        );
-        n += 1;
+    for n in 0..302usize {
+        sum = try_calls(sum, with_number(m, i, n.wrapping_sub(2)), head);
     }
     sum
 }
 
 fn try_numbers(t: Tally, m: CpimMessage, head: [u8; 512]) -> Tally {
     let mut sum = t;
-    let mut i = 0;
-    while i < 6 {
+    for i in 0..6 {
         sum = try_number(sum, m, head, i);
-        i += 1;
     }
     sum
 }
@@ -235,38 +215,28 @@ fn try_header_place(t: Tally, h: CpimHeader, store: [u8; 128], at: usize) -> Tal
         return t;
     }
     let mut sum = t;
-    let mut i = 0;
-    while i < 16 {
+    for i in 0..16 {
         let mut work = store;
         work[at] = another(store[at], i);
         sum = try_param(sum, h, work);
-        i += 1;
     }
     sum
 }
 
 fn try_header(t: Tally, h: CpimHeader, store: [u8; 128]) -> Tally {
     let mut sum = t;
-    let mut at = 0;
-    while at < 128 {
+    for at in 0..128 {
         sum = try_header_place(sum, h, store, at);
-        at += 1;
     }
     sum
 }
 
-fn print_line(name: &[u8], n: u64) {
-    write_all(1, name);
-    print_decimal(1, n);
-    write_all(1, b"\n");
-}
-
-fn print_tally(t: Tally) {
-    print_line(b"calls=", t.made);
-    print_line(b"accepted=", t.accepted);
-    print_line(b"nothing-held=", t.nothing);
-    print_line(b"otherwise=", t.other);
-    print_line(b"wrong=", t.wrong);
+fn print_tally(rt: &impl Print, t: Tally) -> io::Result<()> {
+    println!(rt; "calls={}", t.made)?;
+    println!(rt; "accepted={}", t.accepted)?;
+    println!(rt; "nothing-held={}", t.nothing)?;
+    println!(rt; "otherwise={}", t.other)?;
+    println!(rt; "wrong={}", t.wrong)
 }
 
 fn none() -> Tally {
@@ -300,7 +270,7 @@ fn header_tally() -> Tally {
     try_header(none(), two.header, store)
 }
 
-fn main() {
-    print_tally(message_tally());
-    print_tally(header_tally());
+fn main(rt: HostRuntime) -> io::Result<()> {
+    print_tally(&rt, message_tally())?;
+    print_tally(&rt, header_tally())
 }

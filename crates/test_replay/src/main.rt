@@ -14,9 +14,12 @@
 use calls_script::{argument_at, argument_end, number_at};
 use calls_write::begun::{new_and_run, read_and_run};
 use format::{Answer, CpimMessage};
-use io::{print_decimal, read_full, write_all};
+use input::read_whole;
 use octets::compare::same;
 use read::parse_cpim;
+use std::io;
+use std::io::Read;
+use std::time::Clock;
 use write::to_string;
 
 // The first n bytes, all of them where there are fewer.
@@ -54,10 +57,8 @@ fn behind(item: &[u8], at: usize) -> usize {
 // The n-th part of a record.
 fn nth<'a>(item: &'a [u8], n: usize) -> &'a [u8] {
     let mut at = 1;
-    let mut i = 0;
-    while i < n {
+    for _ in 0..n {
         at = behind(item, at);
-        i += 1;
     }
     part_at(item, at)
 }
@@ -91,12 +92,10 @@ fn has_at(store: &[u8], at: usize, s: &[u8]) -> bool {
 
 // Every byte is the one given.
 fn all(s: &[u8], b: u8) -> bool {
-    let mut i = 0;
-    while i < s.len() {
-        if s[i] != b {
+    for byte in s {
+        if *byte != b {
             return false;
         }
-        i += 1;
     }
     true
 }
@@ -212,90 +211,92 @@ fn differs(kind: u8, item: &[u8]) -> u64 {
 }
 
 // The next record of the list; how long it is, 0 at the end.
-fn next(item: &mut [u8]) -> usize {
+fn next(clock: &impl Clock, list: &mut impl Read, item: &mut [u8]) -> usize {
     let mut size = [0u8; 4];
-    if read_full(0, &mut size) < 4 {
+    if read_whole(clock, list, &mut size).count < 4 {
         return 0;
     }
     let n = number_at(&size, 0);
     if item.len() < n {
         return 0;
     }
-    read_full(0, &mut item[..n])
+    read_whole(clock, list, &mut item[..n]).count
 }
 
 fn count(counts: &mut [u64; 5], kind: u8) {
     let i = kind as usize;
     if i < 5 {
-        counts[i] = std::num::wrapping_add_u64(counts[i], 1);
+        counts[i] = counts[i].wrapping_add(1);
     }
 }
 
 // Where the first difference is.
-fn say(place: u64, kind: u8, what: u64) {
-    write_all(1, b"differs first: answer ");
-    print_decimal(1, place);
-    write_all(1, b" of the list, of kind ");
-    print_decimal(1, kind as u64);
-    write_all(1, b", in ");
-    match what {
-        1 => write_all(1, b"the refusal's number\n"),
-        2 => write_all(1, b"the carried number\n"),
-        3 => write_all(1, b"what a refusal leaves\n"),
-        4 => write_all(1, b"the message held\n"),
-        _ => write_all(1, b"its text\n"),
+fn say(rt: &impl Print, place: u64, kind: u8, what: u64) -> io::Result<()> {
+    let part = match what {
+        1 => "the refusal's number",
+        2 => "the carried number",
+        3 => "what a refusal leaves",
+        4 => "the message held",
+        _ => "its text",
     };
+    println!(rt; "differs first: answer {place} of the list, of kind {kind}, in {part}")
 }
 
 // One record; false at the end of the list.
-fn turn(place: u64, asked: &mut [u64; 5], agreed: &mut [u64; 5], told: &mut bool) -> bool {
+fn turn(
+    rt: &(impl Print + Clock),
+    list: &mut impl Read,
+    place: u64,
+    asked: &mut [u64; 5],
+    agreed: &mut [u64; 5],
+    told: &mut bool,
+) -> io::Result<bool> {
     let mut item = [0u8; 16384];
-    let n = next(&mut item);
+    let n = next(rt, list, &mut item);
     if n == 0 {
-        return false;
+        return Ok(false);
     }
     let kind = item[0];
     let what = differs(kind, first(&item, n));
     count(asked, kind);
     if what == 0 {
         count(agreed, kind);
-        return true;
+        return Ok(true);
     }
     if *told {
-        return true;
+        return Ok(true);
     }
     *told = true;
-    say(place, kind, what);
-    true
+    say(rt, place, kind, what)?;
+    Ok(true)
 }
 
-fn print_kind(name: &[u8], agreed: u64, asked: u64) {
-    write_all(1, name);
-    write_all(1, b": ");
-    print_decimal(1, agreed);
-    write_all(1, b" of ");
-    print_decimal(1, asked);
-    write_all(1, b" agree\n");
+fn print_kind(rt: &impl Print, name: &str, agreed: u64, asked: u64) -> io::Result<()> {
+    println!(rt; "{name}: {agreed} of {asked} agree")
 }
 
 // Every record; a list has an end, and no more than a million.
-fn replay_all(asked: &mut [u64; 5], agreed: &mut [u64; 5]) {
+fn replay_all(
+    rt: &(impl Print + Clock),
+    list: &mut impl Read,
+    asked: &mut [u64; 5],
+    agreed: &mut [u64; 5],
+) -> io::Result<()> {
     let mut told = false;
-    let mut place = 1;
-    while place < 1000000 {
-        if !turn(place, asked, agreed, &mut told) {
-            return;
+    for place in 1..1000000 {
+        if !turn(rt, list, place, asked, agreed, &mut told)? {
+            return Ok(());
         }
-        place += 1;
     }
+    Ok(())
 }
 
-fn main() {
+fn main(rt: HostRuntime) -> io::Result<()> {
     let mut asked = [0u64; 5];
     let mut agreed = [0u64; 5];
-    replay_all(&mut asked, &mut agreed);
-    print_kind(b"texts read", agreed[1], asked[1]);
-    print_kind(b"texts read and written", agreed[2], asked[2]);
-    print_kind(b"lists of calls begun by a text", agreed[3], asked[3]);
-    print_kind(b"lists of calls begun by new", agreed[4], asked[4]);
+    replay_all(&rt, &mut rt.stdin(), &mut asked, &mut agreed)?;
+    print_kind(&rt, "texts read", agreed[1], asked[1])?;
+    print_kind(&rt, "texts read and written", agreed[2], asked[2])?;
+    print_kind(&rt, "lists of calls begun by a text", agreed[3], asked[3])?;
+    print_kind(&rt, "lists of calls begun by new", agreed[4], asked[4])
 }

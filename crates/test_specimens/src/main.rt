@@ -10,11 +10,11 @@ use crate::second_reading::{
     escapes_read, messages_back, params_checked, params_read, spaces_misplaced,
 };
 use format::CpimMessage;
-use io::{print_decimal, write_all};
 use octets::copy_at;
 use read::parse_cpim;
 use read_split::{body_part, read_body};
 use roundtrip::comes_back;
+use std::io;
 use write::to_string;
 
 // The bytes of s at a place of a text, where there is room for them; the place behind them.
@@ -32,10 +32,8 @@ pub fn add(text: &mut [u8], at: usize, s: &[u8]) -> usize {
 // The bytes of s n times.
 fn add_times(text: &mut [u8], at: usize, s: &[u8], n: usize) -> usize {
     let mut to = at;
-    let mut i = 0;
-    while i < n {
+    for _ in 0..n {
         to = add(text, to, s);
-        i += 1;
     }
     to
 }
@@ -49,51 +47,54 @@ pub fn first<'a>(s: &'a [u8], n: usize) -> &'a [u8] {
     &s[..n]
 }
 
-fn print_numbers(name: &[u8], number: u64, carried: u64) {
-    write_all(1, name);
-    write_all(1, b" ");
-    print_decimal(1, number);
-    write_all(1, b" ");
-    print_decimal(1, carried);
-    write_all(1, b"\n");
+fn print_numbers(rt: &impl Print, name: &[u8], number: u64, carried: u64) -> io::Result<()> {
+    rt.write_all(name)?;
+    println!(rt; " {number} {carried}")
 }
 
 // The text of what is held.
-fn print_text(m: CpimMessage, head: &[u8], body: &[u8]) {
+fn print_text(rt: &impl Print, m: CpimMessage, head: &[u8], body: &[u8]) -> io::Result<()> {
     let mut out = [0u8; 8192];
     let n = to_string(m, head, body, &mut out);
     if n.number != 0 {
-        print_numbers(b"to_string", n.number, n.carried);
-        return;
+        return print_numbers(rt, b"to_string", n.number, n.carried);
     }
-    write_all(1, first(&out, n.length));
-    write_all(1, b"\n");
+    rt.write_all(first(&out, n.length))?;
+    rt.write_all(b"\n")
 }
 
 // A text read.
-fn read(name: &[u8], text: &[u8]) {
+fn read(rt: &impl Print, name: &[u8], text: &[u8]) -> io::Result<()> {
     let mut head = [0u8; 16384];
     let mut body = [0u8; 64];
     let a = parse_cpim(text, &mut head, &mut body);
-    print_numbers(name, a.number, a.carried);
+    print_numbers(rt, name, a.number, a.carried)?;
     if a.number == 0 {
-        print_text(a.message, &head, &body);
+        print_text(rt, a.message, &head, &body)?;
     }
+    Ok(())
 }
 
 // A text with these header lines and content lines, and the body `Hi`.
-fn notice(name: &[u8], headers: &[u8], contents: &[u8]) {
+fn notice(rt: &impl Print, name: &[u8], headers: &[u8], contents: &[u8]) -> io::Result<()> {
     let mut text = [0u8; 8192];
     let mut at = add(&mut text, 0, b"Content-type: Message/CPIM\r\n\r\n");
     at = add(&mut text, at, headers);
     at = add(&mut text, at, b"\r\n\r\n");
     at = add(&mut text, at, contents);
     at = add(&mut text, at, b"\r\n\r\nHi");
-    read(name, first(&text, at));
+    read(rt, name, first(&text, at))
 }
 
 // A header line, or a content line, of which s stands n times between two parts: its numbers alone.
-fn limit(name: &[u8], before: &[u8], s: &[u8], n: usize, behind: &[u8]) {
+fn limit(
+    rt: &impl Print,
+    name: &[u8],
+    before: &[u8],
+    s: &[u8],
+    n: usize,
+    behind: &[u8],
+) -> io::Result<()> {
     let mut text = [0u8; 8192];
     let mut at = add(&mut text, 0, b"Content-type: Message/CPIM\r\n\r\n");
     at = add(&mut text, at, before);
@@ -102,176 +103,199 @@ fn limit(name: &[u8], before: &[u8], s: &[u8], n: usize, behind: &[u8]) {
     let mut head = [0u8; 16384];
     let mut body = [0u8; 64];
     let a = parse_cpim(first(&text, at), &mut head, &mut body);
-    print_numbers(name, a.number, a.carried);
+    print_numbers(rt, name, a.number, a.carried)
 }
 
 // One below the limit, at it, and one above.
-fn around(name: &[u8], before: &[u8], s: &[u8], n: usize, behind: &[u8]) {
+fn around(
+    rt: &impl Print,
+    name: &[u8],
+    before: &[u8],
+    s: &[u8],
+    n: usize,
+    behind: &[u8],
+) -> io::Result<()> {
     if n == 0 {
-        return;
+        return Ok(());
     }
     if 2000 < n {
-        return;
+        return Ok(());
     }
-    limit(name, before, s, n - 1, behind);
-    limit(name, before, s, n, behind);
-    limit(name, before, s, n + 1, behind);
+    limit(rt, name, before, s, n - 1, behind)?;
+    limit(rt, name, before, s, n, behind)?;
+    limit(rt, name, before, s, n + 1, behind)
 }
 
 // Header lines, over a content section that is sound.
-fn header_lines(name: &[u8], headers: &[u8]) {
-    notice(name, headers, b"Content-type: text/plain");
+fn header_lines(rt: &impl Print, name: &[u8], headers: &[u8]) -> io::Result<()> {
+    notice(rt, name, headers, b"Content-type: text/plain")
 }
 
-fn texts_refused() {
-    read(b"2", b"");
+fn texts_refused(rt: &impl Print) -> io::Result<()> {
+    read(rt, b"2", b"")?;
     read(
+        rt,
         b"3",
         b"Hi\r\n\r\nTo: a\r\n\r\nContent-type: text/plain\r\n\r\nHi",
-    );
+    )
 }
 
 // Header lines, and a content line.
-fn lines_refused() {
-    header_lines(b"4", b"To");
-    header_lines(b"5", b"To: \\q");
-    header_lines(b"6", b": a");
-    header_lines(b"8", b"T\to: a");
-    header_lines(b"9", b"a=b: c");
-    notice(b"11", b"To: a", b"ID: a\tb");
+fn lines_refused(rt: &impl Print) -> io::Result<()> {
+    header_lines(rt, b"4", b"To")?;
+    header_lines(rt, b"5", b"To: \\q")?;
+    header_lines(rt, b"6", b": a")?;
+    header_lines(rt, b"8", b"T\to: a")?;
+    header_lines(rt, b"9", b"a=b: c")?;
+    notice(rt, b"11", b"To: a", b"ID: a\tb")
 }
 
-fn params_refused() {
-    header_lines(b"12", b"To;=x: a");
-    header_lines(b"14", b"To;a\"b=c: a");
-    header_lines(b"16", b"To;a=b\"c: a");
+fn params_refused(rt: &impl Print) -> io::Result<()> {
+    header_lines(rt, b"12", b"To;=x: a")?;
+    header_lines(rt, b"14", b"To;a\"b=c: a")?;
+    header_lines(rt, b"16", b"To;a=b\"c: a")
 }
 
 // Content types, and a text that is not UTF-8.
-fn types_refused() {
-    notice(b"17", b"To: a", b"Content-type:");
-    notice(b"19", b"To: a", b"Content-type: a\x07b");
-    read(b"24", b"\xFF");
+fn types_refused(rt: &impl Print) -> io::Result<()> {
+    notice(rt, b"17", b"To: a", b"Content-type:")?;
+    notice(rt, b"19", b"To: a", b"Content-type: a\x07b")?;
+    read(rt, b"24", b"\xFF")
 }
 
 // The limits of a header line: s stands in it n times.
-fn around_in_line(name: &[u8], before: &[u8], s: &[u8], n: usize, behind: &[u8]) {
+fn around_in_line(
+    rt: &impl Print,
+    name: &[u8],
+    before: &[u8],
+    s: &[u8],
+    n: usize,
+    behind: &[u8],
+) -> io::Result<()> {
     let mut rest = [0u8; 64];
     let mut at = add(&mut rest, 0, behind);
     at = add(&mut rest, at, b"\r\n\r\nContent-type: text/plain\r\n\r\nHi");
-    around(name, before, s, n, first(&rest, at));
+    around(rt, name, before, s, n, first(&rest, at))
 }
 
-fn lengths_of_headers() {
-    around_in_line(b"7", b"", b"a", 128, b": b");
-    around_in_line(b"10", b"To: ", b"a", 1024, b"");
+fn lengths_of_headers(rt: &impl Print) -> io::Result<()> {
+    around_in_line(rt, b"7", b"", b"a", 128, b": b")?;
+    around_in_line(rt, b"10", b"To: ", b"a", 1024, b"")
 }
 
-fn lengths_of_params() {
-    around_in_line(b"13", b"To;", b"a", 64, b"=b: c");
-    around_in_line(b"15", b"To;a=", b"b", 256, b": c");
+fn lengths_of_params(rt: &impl Print) -> io::Result<()> {
+    around_in_line(rt, b"13", b"To;", b"a", 64, b"=b: c")?;
+    around_in_line(rt, b"15", b"To;a=", b"b", 256, b": c")
 }
 
-fn length_of_type() {
+fn length_of_type(rt: &impl Print) -> io::Result<()> {
     around(
+        rt,
         b"18",
         b"To: a\r\n\r\nContent-type: ",
         b"a",
         256,
         b"\r\n\r\nHi",
-    );
+    )
 }
 
 // 20, 21 and 22: the last parameter and the last content header replace the ones before them, and count all the same.
-fn counts() {
-    around_in_line(b"20", b"To: a", b"\r\nTo: a", 49, b"");
+fn counts(rt: &impl Print) -> io::Result<()> {
+    around_in_line(rt, b"20", b"To: a", b"\r\nTo: a", 49, b"")?;
     around_in_line(
+        rt,
         b"21",
         b"To;b=1;c=1;d=1;e=1;f=1;g=1;h=1;i=1;j=1",
         b";a=1",
         1,
         b": c",
-    );
+    )?;
     around(
+        rt,
         b"22",
         b"To: a\r\n\r\nb:1\r\nc:1\r\nd:1\r\ne:1\r\nf:1\r\ng:1\r\nh:1\r\ni:1\r\nj:1\r\nk:1\r\nl:1\r\nm:1\r\nn:1\r\no:1\r\np:1\r\nq:1\r\nr:1\r\ns:1\r\nt:1",
         b"\r\na:1",
         1,
         b"\r\n\r\nHi",
-    );
+    )
 }
 
 // A head store of 255 bytes, and one that is a byte short.
-fn stores(text: &[u8]) {
+fn stores(rt: &impl Print, text: &[u8]) -> io::Result<()> {
     let mut body = [0u8; 2];
     let mut short = [0u8; 255];
     let one = parse_cpim(text, &mut short, &mut body);
-    print_numbers(b"25", one.number, one.carried);
+    print_numbers(rt, b"25", one.number, one.carried)?;
     let mut less = [0u8; 274];
     let two = parse_cpim(text, &mut less, &mut body);
-    print_numbers(b"a byte less", two.number, two.carried);
+    print_numbers(rt, b"a byte less", two.number, two.carried)
 }
 
-fn outputs(text: &[u8]) {
+fn outputs(rt: &impl Print, text: &[u8]) -> io::Result<()> {
     let mut head = [0u8; 275];
     let mut body = [0u8; 2];
     let read = parse_cpim(text, &mut head, &mut body);
-    print_numbers(b"room for all", read.number, read.carried);
+    print_numbers(rt, b"room for all", read.number, read.carried)?;
     let mut none = [0u8; 0];
     let written = to_string(read.message, &head, &body, &mut none);
-    print_numbers(b"26", written.number, written.carried);
+    print_numbers(rt, b"26", written.number, written.carried)
 }
 
-fn no_body_store(text: &[u8]) {
+fn no_body_store(rt: &impl Print, text: &[u8]) -> io::Result<()> {
     let mut head = [0u8; 275];
     let mut none = [0u8; 0];
     let read = parse_cpim(text, &mut head, &mut none);
-    print_numbers(b"no body store", read.number, read.carried);
+    print_numbers(rt, b"no body store", read.number, read.carried)
 }
 
 // Whether a message comes back from its text.
-fn print_whole(name: &[u8], m: CpimMessage, head: &[u8], body: &[u8]) {
-    write_all(1, name);
+fn print_whole(
+    rt: &impl Print,
+    name: &[u8],
+    m: CpimMessage,
+    head: &[u8],
+    body: &[u8],
+) -> io::Result<()> {
+    rt.write_all(name)?;
     if comes_back(m, head, body) {
-        write_all(1, b" comes back\n");
-        return;
+        return rt.write_all(b" comes back\n");
     }
-    write_all(1, b" does not come back\n");
+    rt.write_all(b" does not come back\n")
 }
 
 // A message's text read.
-fn back(name: &[u8], m: CpimMessage, head: &[u8], body: &[u8]) {
-    print_whole(name, m, head, body);
+fn back(rt: &impl Print, name: &[u8], m: CpimMessage, head: &[u8], body: &[u8]) -> io::Result<()> {
+    print_whole(rt, name, m, head, body)?;
     let mut out = [0u8; 8192];
     let n = to_string(m, head, body, &mut out);
-    read(name, first(&out, n.length));
+    read(rt, name, first(&out, n.length))
 }
 
-fn headerless() {
+fn headerless(rt: &impl Print) -> io::Result<()> {
     let mut head = [0u8; 1024];
     let mut body = [0u8; 2];
     let m = message::new(b"text/plain", b"Hi", &mut head, &mut body);
-    back(b"P6", m.message, &head, &body);
+    back(rt, b"P6", m.message, &head, &body)
 }
 
-fn with_lang(name: &[u8], value: &[u8]) {
+fn with_lang(rt: &impl Print, name: &[u8], value: &[u8]) -> io::Result<()> {
     let mut head = [0u8; 1024];
     let mut body = [0u8; 2];
     let m = message::new(b"text/plain", b"Hi", &mut head, &mut body);
     let lang = message::builders::with_subject_lang(m.message, &mut head, value, b"en");
-    back(name, lang.message, &head, &body);
+    back(rt, name, lang.message, &head, &body)
 }
 
-fn with_value(name: &[u8], value: &[u8]) {
+fn with_value(rt: &impl Print, name: &[u8], value: &[u8]) -> io::Result<()> {
     let mut head = [0u8; 1024];
     let mut body = [0u8; 2];
     let m = message::new(b"text/plain", b"Hi", &mut head, &mut body);
     let to = message::set_header(m.message, &mut head, b"To", value);
-    back(name, to.message, &head, &body);
+    back(rt, name, to.message, &head, &body)
 }
 
 // Twenty content headers, then one of them again.
-fn content_again() {
+fn content_again(rt: &impl Print) -> io::Result<()> {
     let mut head = [0u8; 1024];
     let mut body = [0u8; 2];
     let read = parse_cpim(
@@ -280,60 +304,62 @@ fn content_again() {
         &mut body,
     );
     let again = message::add_content_header(read.message, &mut head, b"a", b"2");
-    print_numbers(b"P11", again.number, again.carried);
+    print_numbers(rt, b"P11", again.number, again.carried)
 }
 
 // A parameter's value that no text can have.
-fn semicolon() {
+fn semicolon(rt: &impl Print) -> io::Result<()> {
     let mut store = [0u8; 64];
     let made = header::new(b"Hi", &mut store);
     let a = header::with_param(made.header, &mut store, b"a", b"a;b");
-    print_numbers(b"16 by a call", a.number, a.carried);
+    print_numbers(rt, b"16 by a call", a.number, a.carried)
 }
 
 // The body without a store, in two calls.
-fn body_of<'a>(text: &'a [u8], buffer: &'a mut [u8]) {
+fn body_of<'a>(rt: &impl Print, text: &'a [u8], buffer: &'a mut [u8]) -> io::Result<()> {
     let a = read_body(text, buffer);
-    print_numbers(b"body", a.number, a.carried);
-    write_all(1, body_part(text, buffer, a.length));
-    write_all(1, b"\n");
+    print_numbers(rt, b"body", a.number, a.carried)?;
+    rt.write_all(body_part(text, buffer, a.length))?;
+    rt.write_all(b"\n")
 }
 
-fn bodies() {
+fn bodies(rt: &impl Print) -> io::Result<()> {
     let mut none = [0u8; 0];
     body_of(
+        rt,
         b"message/cpim\r\n\r\nTo: a\r\n\r\nContent-type: text/plain\r\n\r\nHi",
         &mut none,
-    );
+    )?;
     let mut six = [0u8; 6];
     let mut five = [0u8; 5];
     let lines = b"message/cpim\n\nTo: a\n\nContent-type: text/plain\n\na\n\nb";
-    body_of(lines, &mut six);
-    body_of(lines, &mut five);
+    body_of(rt, lines, &mut six)?;
+    body_of(rt, lines, &mut five)
 }
 
-fn escapes() {
-    with_value(b"P1 by a call", b"A\\B");
-    header_lines(b"P1", b"To: A\\\\B");
-    header_lines(b"P2", b"To: \\u0041");
-    header_lines(b"P3", b"To: \\u+041");
-    header_lines(b"P4", b"To: \\ud800");
+fn escapes(rt: &impl Print) -> io::Result<()> {
+    with_value(rt, b"P1 by a call", b"A\\B")?;
+    header_lines(rt, b"P1", b"To: A\\\\B")?;
+    header_lines(rt, b"P2", b"To: \\u0041")?;
+    header_lines(rt, b"P3", b"To: \\u+041")?;
+    header_lines(rt, b"P4", b"To: \\ud800")
 }
 
-fn messages() {
-    headerless();
-    with_lang(b"P7", b"Hi");
-    with_value(b"P8", b"\t");
-    with_value(b"P9", b" ");
+fn messages(rt: &impl Print) -> io::Result<()> {
+    headerless(rt)?;
+    with_lang(rt, b"P7", b"Hi")?;
+    with_value(rt, b"P8", b"\t")?;
+    with_value(rt, b"P9", b" ")?;
     read(
+        rt,
         b"P10",
         b"message/cpim\n\nTo: a\n\nContent-type: text/plain\n\na\n\nb",
-    );
-    content_again();
+    )?;
+    content_again(rt)
 }
 
 // A header value of 1,024 spaces: an output that is a byte short, and one that the text fills.
-fn spaces() {
+fn spaces(rt: &impl Print) -> io::Result<()> {
     let mut head = [0u8; 2048];
     let mut body = [0u8; 2];
     let m = message::new(b"text/plain", b"Hi", &mut head, &mut body);
@@ -341,43 +367,43 @@ fn spaces() {
     let to = message::set_header(m.message, &mut head, b"To", &value);
     let mut short = [0u8; 1101];
     let less = to_string(to.message, &head, &body, &mut short);
-    print_numbers(b"spaces, a byte short", less.number, less.carried);
+    print_numbers(rt, b"spaces, a byte short", less.number, less.carried)?;
     let mut full = [0u8; 1102];
     let all = to_string(to.message, &head, &body, &mut full);
-    print_numbers(b"spaces", all.number, all.carried);
+    print_numbers(rt, b"spaces", all.number, all.carried)
 }
 
 // U+00A0 at the end, U+3000 in front, two spaces, a space behind an escape; and behind a parameter, which is read as part of the value.
-fn ends() {
-    with_value(b"T-03 last", b"x\xc2\xa0");
-    with_value(b"T-03 first", b"\xe3\x80\x80x");
-    with_value(b"T-03 both", b"  ");
-    with_value(b"T-03 escape", b"\\ ");
-    with_lang(b"T-03 parameter", b"Hi\xc2\xa0");
-    spaces();
+fn ends(rt: &impl Print) -> io::Result<()> {
+    with_value(rt, b"T-03 last", b"x\xc2\xa0")?;
+    with_value(rt, b"T-03 first", b"\xe3\x80\x80x")?;
+    with_value(rt, b"T-03 both", b"  ")?;
+    with_value(rt, b"T-03 escape", b"\\ ")?;
+    with_lang(rt, b"T-03 parameter", b"Hi\xc2\xa0")?;
+    spaces(rt)
 }
 
-fn main() {
-    texts_refused();
-    lines_refused();
-    params_refused();
-    types_refused();
-    lengths_of_headers();
-    lengths_of_params();
-    length_of_type();
-    counts();
+fn main(rt: HostRuntime) -> io::Result<()> {
+    texts_refused(&rt)?;
+    lines_refused(&rt)?;
+    params_refused(&rt)?;
+    types_refused(&rt)?;
+    lengths_of_headers(&rt)?;
+    lengths_of_params(&rt)?;
+    length_of_type(&rt)?;
+    counts(&rt)?;
     let text = b"Content-type: Message/CPIM\r\n\r\nTo: a\r\n\r\nContent-type: text/plain\r\n\r\nHi";
-    stores(text);
-    outputs(text);
-    no_body_store(text);
-    semicolon();
-    bodies();
-    escapes();
-    messages();
-    ends();
-    spaces_misplaced();
-    params_read();
-    params_checked();
-    escapes_read();
-    messages_back();
+    stores(&rt, text)?;
+    outputs(&rt, text)?;
+    no_body_store(&rt, text)?;
+    semicolon(&rt)?;
+    bodies(&rt)?;
+    escapes(&rt)?;
+    messages(&rt)?;
+    ends(&rt)?;
+    spaces_misplaced(&rt)?;
+    params_read(&rt)?;
+    params_checked(&rt)?;
+    escapes_read(&rt)?;
+    messages_back(&rt)
 }

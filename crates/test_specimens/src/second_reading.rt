@@ -3,130 +3,128 @@
 
 use crate::{add, first};
 use format::CpimMessage;
-use io::{print_decimal, write_all};
 use lookup::{get_header, get_param_name, get_param_value};
 use read::{parse_cpim, parse_cpim_rfc};
 use roundtrip::comes_back_rfc;
+use std::io;
 use write::to_string;
 
-fn print_pair(number: u64, carried: u64) {
-    print_decimal(1, number);
-    write_all(1, b" ");
-    print_decimal(1, carried);
+fn print_pair(rt: &impl Print, number: u64, carried: u64) -> io::Result<()> {
+    print!(rt; "{number} {carried}")
 }
 
 // The value of the Subject in brackets, and its first parameter, where there is one.
-fn print_subject(m: CpimMessage, head: &[u8]) {
+fn print_subject(rt: &impl Print, m: CpimMessage, head: &[u8]) -> io::Result<()> {
     let mut found = false;
     let value = get_header(m, head, b"Subject", &mut found);
     if !found {
-        write_all(1, b" no Subject");
-        return;
+        return rt.write_all(b" no Subject");
     }
-    write_all(1, b" [");
-    write_all(1, value);
-    write_all(1, b"]");
+    rt.write_all(b" [")?;
+    rt.write_all(value)?;
+    rt.write_all(b"]")?;
     let name = get_param_name(m, head, b"Subject", 0, 0, &mut found);
     if found {
-        write_all(1, b" ");
-        write_all(1, name);
-        write_all(1, b"=[");
-        write_all(1, get_param_value(m, head, b"Subject", 0, 0, &mut found));
-        write_all(1, b"]");
+        rt.write_all(b" ")?;
+        rt.write_all(name)?;
+        rt.write_all(b"=[")?;
+        rt.write_all(get_param_value(m, head, b"Subject", 0, 0, &mut found))?;
+        rt.write_all(b"]")?;
     }
+    Ok(())
 }
 
 // A header line by both readings.
-fn line(header: &[u8]) {
+fn line(rt: &impl Print, header: &[u8]) -> io::Result<()> {
     let mut text = [0u8; 1024];
     let mut at = add(&mut text, 0, b"Content-type: Message/CPIM\r\n\r\n");
     at = add(&mut text, at, header);
     at = add(&mut text, at, b"\r\n\r\nContent-type: text/plain\r\n\r\nHi");
     let mut head = [0u8; 2048];
     let mut body = [0u8; 2];
-    write_all(1, header);
-    write_all(1, b": ");
+    rt.write_all(header)?;
+    rt.write_all(b": ")?;
     let one = parse_cpim(first(&text, at), &mut head, &mut body);
-    print_pair(one.number, one.carried);
-    write_all(1, b", ");
+    print_pair(rt, one.number, one.carried)?;
+    rt.write_all(b", ")?;
     let two = parse_cpim_rfc(first(&text, at), &mut head, &mut body);
-    print_pair(two.number, two.carried);
+    print_pair(rt, two.number, two.carried)?;
     if two.number == 0 {
-        print_subject(two.message, &head);
+        print_subject(rt, two.message, &head)?;
     }
-    write_all(1, b"\n");
+    rt.write_all(b"\n")
 }
 
 // 28: what stands behind the colon.
-pub fn spaces_misplaced() {
-    line(b"Subject: Hi");
-    line(b"Subject: ");
-    line(b"Subject:  Hi ");
-    line(b" Subject : Hi");
-    line(b"Subject:Hi");
-    line(b"Subject:");
-    line(b"Subject:\tHi you");
-    line(b"Subject:\xc2\xa0Hi you");
-    line(b"Subject:;lang=en");
-    line(b"=:x");
-    line(b"Subject;lang=en: Hi");
+pub fn spaces_misplaced(rt: &impl Print) -> io::Result<()> {
+    line(rt, b"Subject: Hi")?;
+    line(rt, b"Subject: ")?;
+    line(rt, b"Subject:  Hi ")?;
+    line(rt, b" Subject : Hi")?;
+    line(rt, b"Subject:Hi")?;
+    line(rt, b"Subject:")?;
+    line(rt, b"Subject:\tHi you")?;
+    line(rt, b"Subject:\xc2\xa0Hi you")?;
+    line(rt, b"Subject:;lang=en")?;
+    line(rt, b"=:x")?;
+    line(rt, b"Subject;lang=en: Hi")
 }
 
 // 27, and what is read of parameters.
-pub fn params_read() {
-    line(b"Subject:;lang=en Hi");
-    line(b"Subject:;a= Hi");
-    line(b"Subject:;a==b Hi");
-    line(b"Subject:;a=b:c Hi");
-    line(b"Subject:;a=1;a=2 Hi");
-    line(b"Subject:;b=1;a=2 Hi");
-    line(b"Subject:;a=b c Hi");
-    line(b"Subject: ;lang=en Hi");
-    line(b"Subject:; Hi");
-    line(b"Subject:;a Hi");
-    line(b"Subject:;a=b; Hi");
-    line(b"Subject:;a b=c Hi");
+pub fn params_read(rt: &impl Print) -> io::Result<()> {
+    line(rt, b"Subject:;lang=en Hi")?;
+    line(rt, b"Subject:;a= Hi")?;
+    line(rt, b"Subject:;a==b Hi")?;
+    line(rt, b"Subject:;a=b:c Hi")?;
+    line(rt, b"Subject:;a=1;a=2 Hi")?;
+    line(rt, b"Subject:;b=1;a=2 Hi")?;
+    line(rt, b"Subject:;a=b c Hi")?;
+    line(rt, b"Subject: ;lang=en Hi")?;
+    line(rt, b"Subject:; Hi")?;
+    line(rt, b"Subject:;a Hi")?;
+    line(rt, b"Subject:;a=b; Hi")?;
+    line(rt, b"Subject:;a b=c Hi")
 }
 
 // The checks behind 27, and 21.
-pub fn params_checked() {
-    line(b"Subject:;=b Hi");
-    line(b"Subject:;a;=b Hi");
-    line(b"Subject:;=b;a Hi");
-    line(b"Subject:;a=\"x\" Hi");
-    line(b"Subject:;a=;b=;c=;d=;e=;f=;g=;h=;i=;j= Hi");
-    line(b"Subject:;a=;b=;c=;d=;e=;f=;g=;h=;i=;j=;k= Hi");
-    line(b"Subject:;a=;b=;c=;d=;e=;f=;g=;h=;i=;j=;a= Hi");
+pub fn params_checked(rt: &impl Print) -> io::Result<()> {
+    line(rt, b"Subject:;=b Hi")?;
+    line(rt, b"Subject:;a;=b Hi")?;
+    line(rt, b"Subject:;=b;a Hi")?;
+    line(rt, b"Subject:;a=\"x\" Hi")?;
+    line(rt, b"Subject:;a=;b=;c=;d=;e=;f=;g=;h=;i=;j= Hi")?;
+    line(rt, b"Subject:;a=;b=;c=;d=;e=;f=;g=;h=;i=;j=;k= Hi")?;
+    line(rt, b"Subject:;a=;b=;c=;d=;e=;f=;g=;h=;i=;j=;a= Hi")
 }
 
-pub fn escapes_read() {
-    line(b"Subject: \\'x");
-    line(b"Subject: \\u+041");
-    line(b"Subject: \\ud800");
+pub fn escapes_read(rt: &impl Print) -> io::Result<()> {
+    line(rt, b"Subject: \\'x")?;
+    line(rt, b"Subject: \\u+041")?;
+    line(rt, b"Subject: \\ud800")
 }
 
 // A message's text by the second reading.
-fn back(m: CpimMessage, head: &[u8], body: &[u8]) {
+fn back(rt: &impl Print, m: CpimMessage, head: &[u8], body: &[u8]) -> io::Result<()> {
     if comes_back_rfc(m, head, body) {
-        write_all(1, b" comes back:");
+        rt.write_all(b" comes back:")?;
     } else {
-        write_all(1, b" does not come back:");
+        rt.write_all(b" does not come back:")?;
     }
     let mut out = [0u8; 1024];
     let n = to_string(m, head, body, &mut out);
     let mut again = [0u8; 1024];
     let mut store = [0u8; 2];
     let a = parse_cpim_rfc(first(&out, n.length), &mut again, &mut store);
-    write_all(1, b" ");
-    print_pair(a.number, a.carried);
+    rt.write_all(b" ")?;
+    print_pair(rt, a.number, a.carried)?;
     if a.number == 0 {
-        print_subject(a.message, &again);
+        print_subject(rt, a.message, &again)?;
     }
-    write_all(1, b"\n");
+    rt.write_all(b"\n")
 }
 
 // The umbrella with a parameter.
-fn umbrella(param: &[u8], value: &[u8]) {
+fn umbrella(rt: &impl Print, param: &[u8], value: &[u8]) -> io::Result<()> {
     let mut head = [0u8; 1024];
     let mut body = [0u8; 2];
     let m = message::new(b"text/plain", b"Hi", &mut head, &mut body);
@@ -136,20 +134,20 @@ fn umbrella(param: &[u8], value: &[u8]) {
     let held = message_add_obj::add_header_obj(
         m.message, &mut head, b"Subject", set.header, &store,
     );
-    back(held.message, &head, &body);
+    back(rt, held.message, &head, &body)
 }
 
 // Its parameter, and whether it comes back.
-fn umbrella_back(param: &[u8], value: &[u8]) {
-    write_all(1, param);
-    write_all(1, b"=");
-    write_all(1, value);
-    umbrella(param, value);
+fn umbrella_back(rt: &impl Print, param: &[u8], value: &[u8]) -> io::Result<()> {
+    rt.write_all(param)?;
+    rt.write_all(b"=")?;
+    rt.write_all(value)?;
+    umbrella(rt, param, value)
 }
 
 // A depot code comes back, and with a space in it it does not.
-pub fn messages_back() {
-    umbrella_back(b"depot", b"north");
-    umbrella_back(b"depot", b"north 4");
-    umbrella_back(b"depot code", b"north");
+pub fn messages_back(rt: &impl Print) -> io::Result<()> {
+    umbrella_back(rt, b"depot", b"north")?;
+    umbrella_back(rt, b"depot", b"north 4")?;
+    umbrella_back(rt, b"depot code", b"north")
 }

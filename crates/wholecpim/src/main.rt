@@ -3,17 +3,28 @@
 
 #![tactic(auto)]
 
-fn main() {
+use std::io::ErrorKind;
+use std::process::ExitCode;
+
+// What a shell gives where a program is ended by SIGPIPE: the reader of the output is gone.
+const READER_GONE: u8 = 141;
+
+fn main(rt: HostRuntime) -> ExitCode {
     let mut text = [0u8; 65537];
-    let got = input::read_whole(0, &mut text);
+    let got = input::read_whole(&rt, &mut rt.stdin(), &mut text);
     if !got.whole {
-        io::write_all(2, b"wholecpim: standard input cannot be read\n");
-        return;
+        let _ = eprintln!(rt; "wholecpim: standard input cannot be read");
+        return ExitCode::SUCCESS;
     }
     let n = got.count;
     let mut out = [0u8; 936];
     let end = report::telling::tell(&text[..n], &mut out);
-    if !io::write_all(1, &out[..end]) {
-        io::write_all(2, b"wholecpim: standard output cannot be written\n");
+    match rt.write_all(&out[..end]) {
+        Ok(()) => ExitCode::SUCCESS,
+        Err(error) if error.kind() == ErrorKind::BrokenPipe => ExitCode::from(READER_GONE),
+        Err(_) => {
+            let _ = eprintln!(rt; "wholecpim: standard output cannot be written");
+            ExitCode::SUCCESS
+        }
     }
 }
