@@ -1,21 +1,21 @@
 -- A new message laid into its stores, and a body put in the place of another. Assumes nothing.
-use Prim.Native.Nat.{ℕ, zero, suc, ◌+◌, ◌-◌, ◌^◌, ◌≤◌, ◌<◌}
+use Prim.Native.Nat.{ℕ, zero, suc, ◌-◌, ◌^◌, ◌≤◌, ◌<◌}
 use mathlib.Core.Path.{◌≡◌, refl, sym, ap, ◌∙◌}
-use mathlib.Core.Bool.{Bool, true, false, not, ◌&&◌}
-use mathlib.Core.List.{[], ◌++◌, append-nil, append_assoc}
-use mathlib.Core.Option.{Option, none, some}
+use mathlib.Core.Bool.{true, false, ◌&&◌}
+use mathlib.Core.List.{◌++◌, append-nil, append_assoc}
+use mathlib.Core.Option.{some}
 use native.Mathlib.Omega.{arith}
 use lib.Dec.{leb}
 use lib.ListN.{length, take, drop, replicate, length-append, length-replicate, length-take}
-use lib.Seq.{drop-append-le, length-take-le, drop_at}
+use lib.Seq.{drop-append-le, length-take-le}
 use Rattle.format.specs.Bytes.{Bytes, all, texts, total, pasted, over}
 use Rattle.format.specs.Characters.{is_utf8}
 use Rattle.format.specs.Limits.{max_body}
 use Rattle.format.specs.Refusals.{Out, accepted, refused, numbers, table, Check, passes, body_too_long, refuse_if, ◌>>◌}
 use Rattle.format.specs.Validators.{utf8}
-use Rattle.format.specs.Message.{Message, need_entry, need_header, need}
+use Rattle.format.specs.Message.{Message, need}
 use Rattle.format.specs.Calls.{fresh, new, body_set, with_body, body_length, set_body, arguments, lends, header_held, change}
-use Rattle.format.specs.Layout.{Lent, BodyAt, Holds, layout_entry, layout_header, layout, record_of, empty_message}
+use Rattle.format.specs.Layout.{Lent, Holds, layout, record_of, empty_message}
 use Rattle.format.specs.Lending.{both_lent, lengths, laid_in, leaves, makes, numbers_of, Made, Changed}
 use Rattle.format.specs.declared.Numbers.{Numbers}
 use Rattle.format.specs.declared.CpimMessage.{CpimMessage}

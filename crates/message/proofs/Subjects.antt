@@ -1,14 +1,14 @@
 -- `with_subject_lang`: a header with the parameter lang, built and added; its checks are the value, the parameter's value, and those of
 -- adding it. Assumes nothing.
-use Prim.Native.Nat.{ℕ, ◌+◌, ◌≤◌}
-use mathlib.Core.Path.{◌≡◌, refl, sym, ap, ◌∙◌, subst}
+use Prim.Native.Nat.{◌≤◌}
+use mathlib.Core.Path.{◌≡◌, sym, ap, ◌∙◌, subst}
 use mathlib.Core.Bool.{true}
 use mathlib.Core.List.{List, [], ◌∷◌}
 use native.Mathlib.Omega.{arith}
 use lib.ListN.{length}
 use Rattle.format.specs.Bytes.{Bytes, ascii}
 use Rattle.format.specs.Limits.{max_param_value}
-use Rattle.format.specs.Refusals.{Out, accepted, Check, passes, ◌>>◌, ◌>>=◌}
+use Rattle.format.specs.Refusals.{Out, accepted, passes, ◌>>◌, ◌>>=◌}
 use Rattle.format.specs.Validators.{header_name, header_value, param_name, param_value}
 use Rattle.format.specs.Message.{Entry, LoneHeader, Message, entry}
 use Rattle.format.specs.Calls.{Stores, with_subject_lang, change, alone_of, add_param, set_param, param_count, header_obj_added, append}
