@@ -2,9 +2,9 @@
 -- (crates/format/specs/Calls.antt) from 0, then its arguments, each a length in four bytes, low one first, and so many bytes. The header of
 -- `add_header_obj` is its record, three numbers of four bytes, and then its store as an argument. A script ends where no whole call stands.
 -- Assumes nothing.
-use Rattle.std.specs.Prelude.{ℕ, zero, suc, ◌+◌, ◌-◌, ◌*◌, Bool, false, ◌&&◌, List, [], ◌∷◌, ◌++◌, leb, length, take, drop, get_or}
+use Rattle.std.specs.Prelude.{ℕ, zero, suc, ◌+◌, ◌-◌, ◌*◌, Bool, false, ◌&&◌, List, [], ◌∷◌, ◌++◌, leb, length, take, drop, get_or, if◌then◌else◌}
 use Rattle.std.proofs.Math.Option.{Option, none, some}
-use Rattle.format.specs.Bytes.{Bytes, if◌then◌else◌}
+use Rattle.format.specs.Bytes.{Bytes}
 use Rattle.format.specs.Message.{LoneHeader}
 use Rattle.format.specs.Calls.{Call, set_body, set_header, add_header, add_header_obj, add_content_header, with_from, with_to, with_datetime, with_subject, with_subject_lang, with_cc, with_ns, with_require, with_content_header}
 use Rattle.format.specs.Runs.{State}

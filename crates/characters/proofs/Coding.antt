@@ -1,6 +1,7 @@
 -- The rows of range ends that the code holds say what Table 3-7 says: which row a lead byte picks, how many bytes its trailing
 -- ranges hold, and when they are all held. Two tests that compute over the table, of its length and of its rows' sizes, carry
 -- this; all else is induction over any rows and ranges. Assumes nothing.
+use Rattle.std.specs.Prelude.{if◌then◌else◌}
 use Prim.Native.Nat.{ℕ, zero, suc, ◌+◌, ◌*◌, ◌≤◌, ◌<◌}
 use mathlib.Core.Path.{◌≡◌, refl, sym, ◌∙◌}
 use mathlib.Core.Bool.{Bool, true, false, ◌&&◌}
@@ -13,7 +14,7 @@ use lib.Dec.{leb, ltb, eqb, eqb-zero-suc, eqb-suc-suc}
 use lib.ListN.{length, take, drop, get_or, drop_of_length-le}
 use lib.Seq.{drop-cons}
 use borrow.Author.Tests.{leb-true, leb-false, ltb-true, eq-eqb, ne_eqb}
-use Rattle.format.specs.Bytes.{Bytes, if◌then◌else◌, all}
+use Rattle.format.specs.Bytes.{Bytes, all}
 use Rattle.format.specs.Characters.{Range, ◌to◌, within, Row, table_3_7, trail_in, trail_of, fits, matched, well_formed}
 use Rattle.format.proofs.Lists.{bcase, all_head, all_tail, all_get_d}
 use Rattle.format.proofs.Rulesets.{tests}

@@ -1,9 +1,9 @@
 -- Table 3-7 as the code holds it, computed from the table of the definitions: each row an array of eight range ends, those of
 -- its lead range and of three trailing ranges. A row with fewer trailing ranges is filled up with 255 to 0, which holds no
 -- byte. Assumes nothing.
-use Rattle.std.specs.Prelude.{ℕ, zero, suc, List, [], ◌∷◌, drop}
+use Rattle.std.specs.Prelude.{ℕ, zero, suc, List, [], ◌∷◌, drop, if◌then◌else◌}
 use Rattle.std.proofs.Math.Option.{Option, none, some}
-use Rattle.format.specs.Bytes.{Bytes, if◌then◌else◌}
+use Rattle.format.specs.Bytes.{Bytes}
 use Rattle.format.specs.Characters.{Range, ◌to◌, within, Row, table_3_7}
 
 -- the ends of k ranges, the last of them 255 to 0 where there are fewer

@@ -1,7 +1,7 @@
 -- How many bytes of a text's first and last character are white space that is no control character (document 02, T-03), and the bytes
 -- that such a character begins with. proofs/LostEnds.antt has the laws for those who cut it off. Assumes nothing.
-use Rattle.std.specs.Prelude.{ℕ, Bool, ◌||◌, List, [], ◌∷◌, eqb, length}
-use Rattle.format.specs.Bytes.{Bytes, if◌then◌else◌}
+use Rattle.std.specs.Prelude.{ℕ, Bool, ◌||◌, List, [], ◌∷◌, eqb, length, if◌then◌else◌}
+use Rattle.format.specs.Bytes.{Bytes}
 use Rattle.format.specs.Characters.{◌to◌, within, last_of, is_lost}
 
 -- U+0020; U+00A0; the others, from U+1680 to U+3000

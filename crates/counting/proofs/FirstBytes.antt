@@ -1,5 +1,6 @@
 -- The strings that the first reading's unescaping accepts, by their first bytes: a byte other than a backslash leaves the rest, behind a
 -- backslash one of six letters does, and `u` asks for four characters; all else is refused. Assumes nothing.
+use Rattle.std.specs.Prelude.{if◌then◌else◌}
 use Prim.Native.Nat.{ℕ, zero, suc, ◌+◌, ◌*◌, ◌<◌}
 use mathlib.Core.Path.{◌≡◌, refl, ap, ◌∙◌}
 use mathlib.Core.Bool.{Bool, true, false, not, ◌&&◌}
@@ -9,7 +10,7 @@ use native.Mathlib.Omega.{arith}
 use lib.Dec.{eqb}
 use lib.ListN.{length, take, drop}
 use borrow.Author.Tests.{eqb-true}
-use Rattle.format.specs.Bytes.{Bytes, if◌then◌else◌, total, backslash, quote}
+use Rattle.format.specs.Bytes.{Bytes, total, backslash, quote}
 use Rattle.format.specs.Characters.{is_scalar, encoding}
 use Rattle.format.specs.Escaping.{four_digits, Escape, scalar_escape, long_escape, one_byte, apostrophe_escape, short_escape, escape_at, takes_of, in_front, escaped, unescape_from, unescape}
 use Rattle.format.specs.Refusals.{numbers, table}

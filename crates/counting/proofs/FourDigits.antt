@@ -1,5 +1,6 @@
 -- The four characters behind `\u` pass in 231,352 ways: the first two as a pair, a digit or the plus and then a digit, but no D followed by 8
 -- to F, which begins a surrogate, in 478 ways, and each of the others as one of 22 digits. Assumes nothing.
+use Rattle.std.specs.Prelude.{if◌then◌else◌}
 use Prim.Native.Nat.{ℕ, ◌+◌, ◌*◌, ◌<◌, ◌≤◌}
 use mathlib.Core.Path.{◌≡◌, refl, sym, ◌∙◌}
 use mathlib.Core.Bool.{Bool, true, false, not, ◌&&◌, and-true, and-false}
@@ -10,7 +11,7 @@ use native.Mathlib.Omega.{arith}
 use lib.Dec.{leb, ltb, eqb}
 use lib.ListN.{length, take, drop}
 use borrow.Author.Tests.{eqb-true, eqb-false, leb-true, leb-false, ltb-true, ltb-false, le-leb, lt-leb, lt-ltb}
-use Rattle.format.specs.Bytes.{Bytes, ascii, if◌then◌else◌, all, total}
+use Rattle.format.specs.Bytes.{Bytes, ascii, all, total}
 use Rattle.format.specs.Characters.{is_scalar, encoding}
 use Rattle.format.specs.Escaping.{digit_value, shifted, first_digit, four_digits, Escape, scalar_escape, long_escape, escape_at, unescape_from}
 use Rattle.format.specs.declared.Manner.TheVariants.{Source}

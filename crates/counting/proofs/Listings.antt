@@ -1,12 +1,13 @@
 -- How the strings are listed does not matter: where each string stands in two lists equally often, as many pass any test. What is equal to the
 -- first string of one list is taken out of the other, and so on. Assumes nothing.
+use Rattle.std.specs.Prelude.{if◌then◌else◌}
 use Prim.Native.Nat.{ℕ, ◌+◌, ◌<◌}
 use mathlib.Core.Path.{◌≡◌, refl, sym, ap, ◌∙◌}
 use mathlib.Core.Bool.{Bool, true, false}
 use mathlib.Core.Logic.{⊎_elim}
 use mathlib.Core.List.{List, [], ◌∷◌}
 use native.Mathlib.Omega.{arith}
-use Rattle.format.specs.Bytes.{Bytes, if◌then◌else◌, total, same}
+use Rattle.format.specs.Bytes.{Bytes, total, same}
 use Rattle.format.proofs.Lists.{bcase, same_eq, same_refl}
 use Rattle.counting.specs.Strings.{strings, is_string, one_if, how_many, string_count}
 use Rattle.counting.proofs.Strings.{count_once}

@@ -1,4 +1,5 @@
 -- One turn of the loops: the form at a place, its bytes, and what is left behind it. Assumes nothing.
+use Rattle.std.specs.Prelude.{if◌then◌else◌}
 use Prim.Native.Nat.{ℕ, suc, ◌+◌, ◌≤◌, ◌<◌}
 use mathlib.Core.Path.{◌≡◌, refl, sym, ap, ◌∙◌}
 use mathlib.Core.Bool.{Bool, true, false, ◌&&◌}
@@ -7,7 +8,7 @@ use native.Mathlib.Omega.{arith}
 use lib.Dec.{eqb}
 use lib.ListN.{length, drop, get_or, length-append, length-drop, drop_of_length-le}
 use lib.Seq.{drop-cons, drop-drop}
-use Rattle.format.specs.Bytes.{Bytes, if◌then◌else◌, pasted}
+use Rattle.format.specs.Bytes.{Bytes, pasted}
 use Rattle.format.specs.Characters.{◌to◌, within}
 use Rattle.format.specs.Escaping.{unicode_escape, escape}
 use Rattle.octets.proofs.Paste.{pasted_pasted}

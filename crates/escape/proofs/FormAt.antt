@@ -1,4 +1,5 @@
 -- The form of a byte, and of the bytes at a place. Assumes nothing.
+use Rattle.std.specs.Prelude.{if◌then◌else◌}
 use Prim.Native.Nat.{ℕ, suc, ◌+◌, ◌≤◌, ◌<◌}
 use mathlib.Core.Path.{◌≡◌, refl, sym, ap, ◌∙◌}
 use mathlib.Core.Bool.{Bool, true, false, ◌&&◌}
@@ -9,7 +10,7 @@ use lib.Dec.{eqb}
 use lib.ListN.{length, drop, get_or, drop_of_length-le}
 use lib.Seq.{drop-cons}
 use borrow.Author.Tests.{ne_eqb, lt-ltb, le-ltb}
-use Rattle.format.specs.Bytes.{Bytes, if◌then◌else◌}
+use Rattle.format.specs.Bytes.{Bytes}
 use Rattle.format.specs.Characters.{◌to◌, within, is_ascii_control}
 use Rattle.format.specs.Escaping.{short_form}
 use Rattle.format.proofs.Characters.Table.{within_intro}

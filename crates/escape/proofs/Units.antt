@@ -1,5 +1,6 @@
 -- A value is escaped without a character being decoded: a byte at a time, but for the two-byte controls. Two facts of Table 3-7 carry it:
 -- trailing bytes are 80 to BF, and none of these leads a character, so that each is written as it is wherever it stands.
+use Rattle.std.specs.Prelude.{if◌then◌else◌}
 use Prim.Native.Nat.{ℕ, zero, suc, ◌+◌, ◌*◌, ◌%◌, ◌≤◌, ◌<◌}
 use mathlib.Core.Path.{◌≡◌, refl, sym, ap, ◌∙◌}
 use mathlib.Core.Bool.{Bool, true, false, ◌&&◌, ◌||◌}
@@ -11,7 +12,7 @@ use lib.Dec.{leb, ltb, eqb}
 use lib.ListN.{take, drop, get_or, take-append-drop}
 use lib.Seq.{take-nil}
 use borrow.Author.Tests.{eqb-true, eqb-false, leb-true, ltb-true, ltb-false, ne_eqb, eq-eqb, le-ltb}
-use Rattle.format.specs.Bytes.{Bytes, if◌then◌else◌, all, texts}
+use Rattle.format.specs.Bytes.{Bytes, all, texts}
 use Rattle.format.specs.Characters.{Range, ◌to◌, within, Row, table_3_7, trail_of, matched, matched_some, trailing, fits, well_formed, code_point, is_control, is_control_code, is_ascii_control}
 use Rattle.format.specs.Escaping.{short_form, short_or, unicode_escape, escape_char, escape}
 use Rattle.format.proofs.Lists.{bcase, clash, and_left, and_right, and_intro}

@@ -1,8 +1,8 @@
 -- How the bytes of a value are written, a byte or a two-byte control at a time: what document 01, "Escaping", says of the characters
 -- of a value, for any bytes. proofs/Units.antt has the law that says so. Assumes nothing.
-use Rattle.std.specs.Prelude.{ℕ, ◌&&◌, [], ◌∷◌, eqb}
+use Rattle.std.specs.Prelude.{ℕ, ◌&&◌, [], ◌∷◌, eqb, if◌then◌else◌}
 use Rattle.std.proofs.Math.Option.{Option, none, some}
-use Rattle.format.specs.Bytes.{Bytes, if◌then◌else◌, backslash}
+use Rattle.format.specs.Bytes.{Bytes, backslash}
 use Rattle.format.specs.Characters.{◌to◌, within, is_ascii_control}
 use Rattle.format.specs.Escaping.{short_form, unicode_escape}
 use Rattle.escape.specs.declared.forms.Form.{Form}

@@ -1,4 +1,5 @@
 -- The address of a value by the value's shape (specs/Addresses.antt), and what follows from it. Assumes nothing.
+use Rattle.std.specs.Prelude.{if◌then◌else◌}
 use Prim.Native.Nat.{ℕ}
 use mathlib.Core.Path.{◌≡◌, refl, sym, ap, ◌∙◌}
 use mathlib.Core.Bool.{Bool, true, false, ◌||◌, false≢true}
@@ -7,7 +8,7 @@ use mathlib.Core.Option.{Option, none, some, none-ne-some, some-injective}
 use native.Mathlib.Omega.{arith}
 use lib.Dec.{eqb, leb}
 use borrow.Author.Tests.{eqb-true, ne_eqb, leb-true}
-use Rattle.format.specs.Bytes.{Bytes, if◌then◌else◌, all, any, has, up_to, past, quote, less_sign, greater_sign, backslash}
+use Rattle.format.specs.Bytes.{Bytes, all, any, has, up_to, past, quote, less_sign, greater_sign, backslash}
 use Rattle.format.specs.Characters.{well_formed, is_utf8}
 use Rattle.format.specs.LookingUp.{of_held, closed, opens, quoting_behind, past_opening, address}
 use Rattle.format.specs.Addresses.{Enclosed, no_bytes, byte, pair, LeadPiece, string, other, Lead, empty, piece, Addressed, plain_address, Addresses}

@@ -1,5 +1,6 @@
 -- Laws of checks and steps: what an accepted chain of steps says of each, and that a passing check computes away.
 -- Assumes nothing.
+use Rattle.std.specs.Prelude.{if◌then◌else◌}
 use Prim.Native.Nat.{ℕ, ◌≤◌}
 use mathlib.Core.Path.{◌≡◌, refl, ap}
 use mathlib.Core.Bool.{Bool, true, false, not, false≢true}
@@ -7,7 +8,7 @@ use mathlib.Core.List.{List, [], ◌∷◌}
 use native.Mathlib.Omega.{arith}
 use lib.Dec.{leb, eqb}
 use borrow.Author.Tests.{leb-true, le-leb, ne_eqb, not-false}
-use Rattle.format.specs.Bytes.{if◌then◌else◌, all}
+use Rattle.format.specs.Bytes.{all}
 use Rattle.format.specs.Refusals.{Refusal, text_too_long, too_few_sections, no_message_cpim, lacks_colon, bad_escape, name_empty, name_too_long, name_control, name_reserved, value_too_long, content_control, param_name_empty, param_name_too_long, param_name_reserved, param_value_too_long, param_value_reserved, type_empty, type_too_long, type_control, too_many_headers, too_many_params, too_many_contents, body_too_long, not_utf8, no_room, too_short, param_lacks_equals, lacks_space, table, Out, accepted, refused, numbers, Check, refuse_if, at_most, passes, ◌>>◌, ◌>>=◌}
 use Rattle.format.specs.Reading.{each}
 use Rattle.format.proofs.Lists.{all_head, all_tail}

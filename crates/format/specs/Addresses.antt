@@ -2,9 +2,9 @@
 -- LookingUp.antt is. Laxer than RFC 3862, which has either words or one `String` before the `<`, and in a `String` no controls and few escapes:
 -- here words and quoted strings come in any order, any byte may stand between quotes, and a backslash there covers any. Proved as `addresses` in
 -- proofs/Addresses.antt. Assumes nothing.
-use Rattle.std.specs.Prelude.{ℕ, ◌≡◌, true, false, ◌↔◌, [], ◌∷◌, ◌++◌, eqb}
+use Rattle.std.specs.Prelude.{ℕ, ◌≡◌, true, false, ◌↔◌, [], ◌∷◌, ◌++◌, eqb, if◌then◌else◌}
 use Rattle.std.proofs.Math.Option.{Option, none, some}
-use Rattle.format.specs.Bytes.{Bytes, if◌then◌else◌, has, up_to, past, quote, less_sign, greater_sign, backslash}
+use Rattle.format.specs.Bytes.{Bytes, has, up_to, past, quote, less_sign, greater_sign, backslash}
 use Rattle.format.specs.Characters.{well_formed, is_utf8}
 use Rattle.format.specs.LookingUp.{closed, address}
 

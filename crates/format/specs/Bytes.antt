@@ -1,6 +1,6 @@
 -- Byte lists: the few operations that every section of document 01 speaks of.
 -- A text is a list of numbers, each a byte; nothing here asks that they are below 256. Assumes nothing.
-use Rattle.std.specs.Prelude.{ℕ, zero, suc, ◌+◌, ◌-◌, Bool, true, false, ◌&&◌, ◌||◌, List, [], ◌∷◌, ◌++◌, leb, ltb, eqb, length, take, drop}
+use Rattle.std.specs.Prelude.{ℕ, zero, suc, ◌+◌, ◌-◌, Bool, true, false, ◌&&◌, ◌||◌, List, [], ◌∷◌, ◌++◌, leb, ltb, eqb, length, take, drop, if◌then◌else◌}
 use Prim.Native.Char.{code}
 use Prim.Native.String.{String}
 use Prim.Native.String as text
@@ -14,11 +14,6 @@ ascii text.[] = []
 ascii (text.◌∷◌ c s) = code c ∷ ascii s
 
 module _ {A : Type 0} where
-  infixr 5 if◌then◌else◌
-  abbrev pub if◌then◌else◌ : Bool → A → A → A
-  if true then x else y = x
-  if false then x else y = y
-
   -- there is no element
   unfoldable pub is_empty : List A → Bool
   is_empty [] = true

@@ -1,8 +1,8 @@
 -- Document 01, "Characters": UTF-8 by Unicode Table 3-7, white space, control characters, trimming, and the replacement
 -- of ill-formed subparts by U+FFFD (Unicode chapter 3). A character is a group of bytes. Assumes nothing.
-use Rattle.std.specs.Prelude.{ℕ, zero, suc, ◌+◌, ◌*◌, ◌/◌, ◌%◌, Bool, true, false, not, ◌&&◌, ◌||◌, List, [], ◌∷◌, leb, ltb, eqb, length, take, drop}
+use Rattle.std.specs.Prelude.{ℕ, zero, suc, ◌+◌, ◌*◌, ◌/◌, ◌%◌, Bool, true, false, not, ◌&&◌, ◌||◌, List, [], ◌∷◌, leb, ltb, eqb, length, take, drop, if◌then◌else◌}
 use Rattle.std.proofs.Math.Option.{Option, none, some}
-use Rattle.format.specs.Bytes.{Bytes, if◌then◌else◌, all, any, texts}
+use Rattle.format.specs.Bytes.{Bytes, all, any, texts}
 
 -- The numbers from first to last.
 pub record Range : Type 0 where

@@ -1,9 +1,9 @@
 -- Document 01, "Escaping" (RFC 3862 section 2.3), and document 02: how the ends of a header value are written (T-03), and escapes read in two
 -- manners, the source's and the RFC's (T-01). The source is stricter: \' is refused. And laxer: \u takes a plus sign and three digits.
 -- Assumes nothing.
-use Rattle.std.specs.Prelude.{ℕ, zero, suc, ◌+◌, ◌-◌, ◌*◌, ◌/◌, ◌%◌, ◌&&◌, List, [], ◌∷◌, ◌++◌, leb, ltb, eqb}
+use Rattle.std.specs.Prelude.{ℕ, zero, suc, ◌+◌, ◌-◌, ◌*◌, ◌/◌, ◌%◌, ◌&&◌, List, [], ◌∷◌, ◌++◌, leb, ltb, eqb, if◌then◌else◌}
 use Rattle.std.proofs.Math.Option.{Option, none, some}
-use Rattle.format.specs.Bytes.{Bytes, if◌then◌else◌, texts, backslash, quote, apostrophe, plus}
+use Rattle.format.specs.Bytes.{Bytes, texts, backslash, quote, apostrophe, plus}
 use Rattle.format.specs.Characters.{chars, is_control, code_point, is_scalar, encoding, is_lost}
 use Rattle.format.specs.declared.Manner.{Manner}
 use Rattle.format.specs.declared.Manner.TheVariants.{Source, Rfc}

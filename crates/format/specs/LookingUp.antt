@@ -1,7 +1,7 @@
 -- Document 01, "Looking up": what is held is a message, or nothing. Absent is a case of its own (`none`). Assumes nothing.
-use Rattle.std.specs.Prelude.{ℕ, zero, suc, Bool, true, false, List, [], ◌∷◌, leb, eqb, length, take}
+use Rattle.std.specs.Prelude.{ℕ, zero, suc, Bool, true, false, List, [], ◌∷◌, leb, eqb, length, take, if◌then◌else◌}
 use Rattle.std.proofs.Math.Option.{Option, none, some}
-use Rattle.format.specs.Bytes.{Bytes, if◌then◌else◌, total, has, up_to, occurs, quote, less_sign, greater_sign, backslash, crlf_crlf_text}
+use Rattle.format.specs.Bytes.{Bytes, total, has, up_to, occurs, quote, less_sign, greater_sign, backslash, crlf_crlf_text}
 use Rattle.format.specs.Characters.{is_utf8}
 use Rattle.format.specs.Refusals.{Out, accepted, refused, Check, pass, ◌>>◌, ◌>>=◌}
 use Rattle.format.specs.Message.{Entry, LoneHeader, Header, name_of, Message, only}

@@ -1,7 +1,7 @@
 -- Document 01, "The message and its calls": what a message is, when it is within limits and validators, and the room that it needs.
 -- Assumes nothing.
-use Rattle.std.specs.Prelude.{ℕ, ◌+◌, Bool, true, not, ◌&&◌, List, [], ◌∷◌, leb, length}
-use Rattle.format.specs.Bytes.{Bytes, if◌then◌else◌, all, total, same, before}
+use Rattle.std.specs.Prelude.{ℕ, ◌+◌, Bool, true, not, ◌&&◌, List, [], ◌∷◌, leb, length, if◌then◌else◌}
+use Rattle.format.specs.Bytes.{Bytes, all, total, same, before}
 use Rattle.format.specs.Characters.{is_utf8}
 use Rattle.format.specs.Limits.{max_headers, max_params, max_contents, max_body}
 use Rattle.format.specs.Refusals.{passes}

@@ -1,7 +1,7 @@
 -- Document 01, "Reading": a text read into a message, with the room of both stores. Assumes nothing.
-use Rattle.std.specs.Prelude.{Bool, not, List, [], ◌∷◌, map, length}
+use Rattle.std.specs.Prelude.{Bool, not, List, [], ◌∷◌, map, length, if◌then◌else◌}
 use Rattle.std.proofs.Math.Option.{Option, none, some}
-use Rattle.format.specs.Bytes.{is_empty, Bytes, ascii, if◌then◌else◌, colon, semicolon, equals, lf_text, crlf_text, lf_lf_text, crlf_crlf_text, occurs, has, up_to, past, lower, same_letters, Pieces, pieces, split, join}
+use Rattle.format.specs.Bytes.{is_empty, Bytes, ascii, colon, semicolon, equals, lf_text, crlf_text, lf_lf_text, crlf_crlf_text, occurs, has, up_to, past, lower, same_letters, Pieces, pieces, split, join}
 use Rattle.format.specs.Characters.{trim}
 use Rattle.format.specs.Escaping.{unescape}
 use Rattle.format.specs.Limits.{max_text}

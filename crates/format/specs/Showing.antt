@@ -1,7 +1,7 @@
 -- Document 01, "Looking up": what the program `showcpim` prints for standard input. Assumes nothing.
-use Rattle.std.specs.Prelude.{ℕ, zero, suc, ◌+◌, ◌/◌, ◌%◌, [], ◌∷◌, ◌++◌, ltb, leb, length}
+use Rattle.std.specs.Prelude.{ℕ, zero, suc, ◌+◌, ◌/◌, ◌%◌, [], ◌∷◌, ◌++◌, ltb, leb, length, if◌then◌else◌}
 use Rattle.std.proofs.Math.Option.{some}
-use Rattle.format.specs.Bytes.{Bytes, ascii, if◌then◌else◌, lf_text}
+use Rattle.format.specs.Bytes.{Bytes, ascii, lf_text}
 use Rattle.format.specs.Escaping.{escape}
 use Rattle.format.specs.Refusals.{Out, accepted, refused, numbers, too_short}
 use Rattle.format.specs.declared.Numbers.{Numbers}

@@ -1,5 +1,6 @@
 -- A parameter put into a header that is held: by what `replace` answers and writes, the call does what the answer asks for.
 -- Assumes nothing.
+use Rattle.std.specs.Prelude.{if◌then◌else◌}
 use Prim.Native.Nat.{ℕ, ◌+◌, ◌-◌, ◌≤◌}
 use mathlib.Core.Path.{◌≡◌, refl, sym, ap, ◌∙◌}
 use mathlib.Core.Bool.{Bool, true, false}
@@ -7,7 +8,7 @@ use mathlib.Core.List.{List, [], ◌∷◌, ◌++◌, append_assoc, append-nil}
 use native.Mathlib.Omega.{arith}
 use lib.Dec.{ltb}
 use lib.ListN.{length, take, replicate, length-append}
-use Rattle.format.specs.Bytes.{Bytes, if◌then◌else◌, total, texts, over}
+use Rattle.format.specs.Bytes.{Bytes, total, texts, over}
 use Rattle.format.specs.Refusals.{accepted, numbers, refuse_if, ◌>>◌, no_room}
 use Rattle.format.specs.Message.{Entry, LoneHeader, entry, need_entry, need_alone}
 use Rattle.format.specs.Calls.{room, if_room_alone}

@@ -1,10 +1,11 @@
 -- The n-th header of a name is the n-th of the list of those headers. Assumes nothing.
+use Rattle.std.specs.Prelude.{if◌then◌else◌}
 use Prim.Native.Nat.{ℕ}
 use mathlib.Core.Path.{◌≡◌, refl}
 use mathlib.Core.Bool.{Bool, true, false}
 use mathlib.Core.List.{[]}
 use mathlib.Core.Option.{Option, none, some}
-use Rattle.format.specs.Bytes.{Bytes, if◌then◌else◌}
+use Rattle.format.specs.Bytes.{Bytes}
 use Rattle.format.specs.Characters.{is_utf8}
 use Rattle.format.specs.Message.{Header, Message, name_of, only}
 use Rattle.format.specs.LookingUp.{nth, of_held, nth_header, get_param}

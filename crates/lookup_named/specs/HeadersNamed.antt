@@ -1,7 +1,7 @@
 -- The headers of a name, as a list. Assumes nothing.
-use Rattle.std.specs.Prelude.{List, []}
+use Rattle.std.specs.Prelude.{List, [], if◌then◌else◌}
 use Rattle.std.proofs.Math.Option.{Option, none, some}
-use Rattle.format.specs.Bytes.{Bytes, if◌then◌else◌}
+use Rattle.format.specs.Bytes.{Bytes}
 use Rattle.format.specs.Characters.{is_utf8}
 use Rattle.format.specs.Message.{Header, Message, name_of, only}
 

@@ -1,8 +1,8 @@
 -- What a lookup answers by place: whether there is such a part, where it begins in the store, and how long it is; of an entry where the
 -- name begins, the lengths of name and value, and the value stands right behind the name. Absent is all zeros. Assumes nothing.
-use Rattle.std.specs.Prelude.{ℕ, ◌+◌, ◌≤◌, ◌≡◌, true, false, List, length, take, drop}
+use Rattle.std.specs.Prelude.{ℕ, ◌+◌, ◌≤◌, ◌≡◌, true, false, List, length, take, drop, if◌then◌else◌}
 use Rattle.std.proofs.Math.Option.{Option, none, some}
-use Rattle.format.specs.Bytes.{Bytes, if◌then◌else◌, total}
+use Rattle.format.specs.Bytes.{Bytes, total}
 use Rattle.format.specs.Message.{Entry, need_entry}
 use Rattle.lookup_places.specs.declared.spots.Part.{Part}
 use Rattle.lookup_places.specs.declared.spots.Pair.{Pair}

@@ -1,12 +1,13 @@
 -- An entry put into a message that is held: by what `replace` answers and writes, the call does what the answer asks for.
 -- Assumes nothing.
+use Rattle.std.specs.Prelude.{if◌then◌else◌}
 use Prim.Native.Nat.{ℕ, ◌+◌, ◌-◌, ◌≤◌}
 use mathlib.Core.Path.{◌≡◌, refl, sym, ap, ◌∙◌}
 use mathlib.Core.List.{List, [], ◌∷◌, ◌++◌}
 use native.Mathlib.Omega.{arith}
 use lib.Dec.{ltb}
 use lib.ListN.{length}
-use Rattle.format.specs.Bytes.{Bytes, if◌then◌else◌, total, over}
+use Rattle.format.specs.Bytes.{Bytes, total, over}
 use Rattle.format.specs.Refusals.{numbers}
 use Rattle.format.specs.Message.{Entry, Header, Message, entry, need_entry, need_header, need_alone, need}
 use Rattle.format.specs.Calls.{room, if_room, with_headers, with_contents}

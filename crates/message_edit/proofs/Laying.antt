@@ -1,4 +1,5 @@
 -- The head store with an entry spliced in is the layout of the message with that entry. Assumes nothing.
+use Rattle.std.specs.Prelude.{if◌then◌else◌}
 use Prim.Native.Nat.{ℕ, ◌+◌, ◌-◌}
 use mathlib.Core.Path.{◌≡◌, refl, sym, ap, ◌∙◌}
 use mathlib.Core.Bool.{Bool, true, false}
@@ -7,7 +8,7 @@ use mathlib.Core.Option.{none}
 use native.Mathlib.Omega.{arith}
 use lib.Dec.{ltb}
 use lib.ListN.{length, take, replicate, length-append, length-replicate}
-use Rattle.format.specs.Bytes.{Bytes, if◌then◌else◌, total, texts, over}
+use Rattle.format.specs.Bytes.{Bytes, total, texts, over}
 use Rattle.format.specs.Refusals.{accepted, numbers, refuse_if, ◌>>◌, no_room}
 use Rattle.format.specs.Message.{Entry, Header, Message, need_entry, need_header, need, valid}
 use Rattle.format.specs.Calls.{room, if_room, with_headers, with_contents}

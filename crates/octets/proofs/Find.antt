@@ -1,4 +1,5 @@
 -- What `find_byte` gives: the place of the first c, before which `up_to` and behind which `past` stand. Assumes nothing.
+use Rattle.std.specs.Prelude.{if◌then◌else◌}
 use Prim.Native.Nat.{ℕ, zero, suc, ◌+◌, ◌≤◌, ◌<◌}
 use mathlib.Core.Path.{◌≡◌, refl, sym, ap, ◌∙◌}
 use mathlib.Core.Bool.{Bool, true, false, ◌||◌}
@@ -11,7 +12,7 @@ use lib.ListN.{length, take, drop, get_or, length-take, drop_of_length-le}
 use lib.Seq.{drop-cons}
 use borrow.Author.Tests.{eq-eqb, ne_eqb, lt-ltb, le-ltb, ltb-true, ltb-false}
 use Rattle.format.proofs.Lists.{bcase, or_false_left, or_false_right}
-use Rattle.format.specs.Bytes.{Bytes, if◌then◌else◌, any, has, up_to, past}
+use Rattle.format.specs.Bytes.{Bytes, any, has, up_to, past}
 
 -- the part before it, by the place
 take_up_to : (c : ℕ) (s : Bytes) → take (length (up_to c s)) s ≡ up_to c s

@@ -1,4 +1,5 @@
 -- The digits of a number, spelt from the last one on. The number left has at most as many digits as there is room for. Assumes nothing.
+use Rattle.std.specs.Prelude.{if◌then◌else◌}
 use Prim.Native.Nat.{ℕ, zero, suc, ◌+◌, ◌-◌, ◌*◌, ◌^◌, ◌/◌, ◌%◌, ◌≤◌, ◌<◌}
 use mathlib.Core.Path.{◌≡◌, refl, sym, ap, ◌∙◌}
 use mathlib.Core.Bool.{true, false}
@@ -8,7 +9,7 @@ use lib.Dec.{ltb}
 use lib.ListN.{length, take, drop, set, length-set, length-drop, drop_of_length-le}
 use lib.Seq.{take-length, drop_at, length-take-le, set_split}
 use borrow.Author.Tests.{lt-ltb, le-ltb}
-use Rattle.format.specs.Bytes.{Bytes, if◌then◌else◌}
+use Rattle.format.specs.Bytes.{Bytes}
 use Rattle.format.specs.Showing.{digits_from, decimal}
 
 -- 1 and so many zeros

@@ -1,11 +1,12 @@
 -- What `parse_head` and `parse_cpim` ensure, by what the lines of a text give and by its body, for any reader of a header line. Assumes nothing.
+use Rattle.std.specs.Prelude.{if◌then◌else◌}
 use Prim.Native.Nat.{ℕ, ◌-◌, ◌^◌, ◌≤◌, ◌<◌}
 use mathlib.Core.Path.{◌≡◌, refl, sym, ap, subst, ◌∙◌}
 use mathlib.Core.Bool.{Bool, true, false, true≢false}
 use mathlib.Core.Option.{some}
 use native.Mathlib.Omega.{arith}
 use lib.ListN.{length, drop, replicate, length-drop}
-use Rattle.format.specs.Bytes.{Bytes, if◌then◌else◌, lf_lf_text, pieces, split, over}
+use Rattle.format.specs.Bytes.{Bytes, lf_lf_text, pieces, split, over}
 use Rattle.format.specs.Limits.{max_body, max_text}
 use Rattle.format.specs.Refusals.{table, Out, accepted, numbers}
 use Rattle.format.specs.Message.{Header, Message}

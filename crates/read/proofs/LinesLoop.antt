@@ -1,5 +1,6 @@
 -- The lines of a section, read one by one: what has been read so far is held, and the rest of the lines decides. Carried by the cut of a
 -- line (`More`) and by what an accepted line leaves (`laid_holds`). Assumes nothing.
+use Rattle.std.specs.Prelude.{if◌then◌else◌}
 use Prim.Native.Nat.{ℕ, ◌+◌, ◌-◌, ◌≤◌, ◌<◌}
 use mathlib.Core.Path.{◌≡◌, refl, sym, ap, subst, ◌∙◌}
 use mathlib.Core.Bool.{Bool, true, false}
@@ -9,7 +10,7 @@ use mathlib.Core.Option.{none}
 use native.Mathlib.Omega.{arith}
 use lib.ListN.{length, take, drop, length-drop}
 use lib.Seq.{take-length}
-use Rattle.format.specs.Bytes.{Bytes, if◌then◌else◌, all, pieces, split}
+use Rattle.format.specs.Bytes.{Bytes, all, pieces, split}
 use Rattle.format.specs.Characters.{is_utf8}
 use Rattle.format.specs.Refusals.{Refusal, Out, accepted, refused, numbers, ◌>>=◌}
 use Rattle.format.specs.Message.{Message, valid}

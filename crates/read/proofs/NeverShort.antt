@@ -1,3 +1,4 @@
+use Rattle.std.specs.Prelude.{if◌then◌else◌}
 -- 26 never comes of a reading with room for every body, by either reader of a header line: only the last check could refuse by it, and 23
 -- comes before it. Assumes nothing.
 use Prim.Native.Nat.{ℕ}
@@ -8,7 +9,7 @@ use mathlib.Core.Option.{Option, none, some}
 use lib.Dec.{eqb}
 use lib.ListN.{length}
 use borrow.Author.Tests.{eq-eqb}
-use Rattle.format.specs.Bytes.{is_empty, Bytes, ascii, if◌then◌else◌, colon, equals, has, up_to, past, same_letters}
+use Rattle.format.specs.Bytes.{is_empty, Bytes, ascii, colon, equals, has, up_to, past, same_letters}
 use Rattle.format.specs.Characters.{trim}
 use Rattle.format.specs.Limits.{max_body}
 use Rattle.format.specs.Refusals.{Refusal, text_too_long, no_message_cpim, lacks_colon, name_empty, name_too_long, name_control, name_reserved, value_too_long, content_control, param_name_empty, param_name_too_long, param_name_reserved, param_value_too_long, param_value_reserved, type_empty, type_too_long, type_control, too_many_headers, too_many_params, too_many_contents, body_too_long, not_utf8, no_room, param_lacks_equals, lacks_space, table, Out, accepted, refused, numbers, Check, refuse_if, at_most, passes, ◌>>◌, ◌>>=◌}

@@ -1,7 +1,7 @@
 -- A reading that leaves the body where it stands, by either reader of a header line: record, head store and refusals are those of a reading
 -- with room for every body, so 26 never comes (`never_short` in proofs/NeverShort.antt), and 23 comes where it always does. Assumes nothing.
-use Rattle.std.specs.Prelude.{ℕ, ◌-◌, ◌≡◌, Bool, true, false, length, drop}
-use Rattle.format.specs.Bytes.{Bytes, if◌then◌else◌}
+use Rattle.std.specs.Prelude.{ℕ, ◌-◌, ◌≡◌, Bool, true, false, length, drop, if◌then◌else◌}
+use Rattle.format.specs.Bytes.{Bytes}
 use Rattle.format.specs.Limits.{max_body}
 use Rattle.format.specs.Refusals.{Out, accepted, refused, numbers}
 use Rattle.format.specs.Message.{Header, Message}

@@ -1,7 +1,7 @@
 -- Reading a text up to its body: what its lines give, and where the body stands that is then judged by 23 and 26
 -- (`lines_first` in proofs/BodyLast.antt: the two together are the definition of reading). Assumes nothing.
-use Rattle.std.specs.Prelude.{ℕ, ◌≤◌, ◌≡◌, Bool, not, length, drop}
-use Rattle.format.specs.Bytes.{Bytes, if◌then◌else◌, lf_lf_text, pieces, split, over}
+use Rattle.std.specs.Prelude.{ℕ, ◌≤◌, ◌≡◌, Bool, not, length, drop, if◌then◌else◌}
+use Rattle.format.specs.Bytes.{Bytes, lf_lf_text, pieces, split, over}
 use Rattle.format.specs.Limits.{max_text}
 use Rattle.format.specs.Refusals.{no_message_cpim, Out, refuse_if, ◌>>◌, ◌>>=◌}
 use Rattle.format.specs.Message.{Header, Message, need}

@@ -12,12 +12,12 @@ ghost use Rattle.store_check.specs.Holding.{message_holds};
 ghost use Rattle.message_edit.specs.Edits.{Does};
 ghost use Rattle.read_content_line.specs.Types.{type_bytes};
 
+use code_points::trimming::trim;
 use format::{Answer, CpimMessage};
 use message_rules::{content_held, refused};
 use octets::compare::same_letters;
 use octets::copy_at;
 use sections::fields::{has, past, up_to};
-use code_points::trimming::trim;
 use validate::validate_content_type;
 
 // A type over the first 256 bytes of the head store, zeros behind it.

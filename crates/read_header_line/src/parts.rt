@@ -7,9 +7,9 @@ ghost use Rattle.format.specs.ReadingRfc.{misplaced};
 ghost use Rattle.format.specs.declared.Manner.TheVariants.{Source, Rfc};
 ghost use Rattle.read_header_line.specs.HeaderLine.{name_by, params_by, value_by, misplaced_by, space_by, taken_by, lacking_by};
 
+use code_points::trimming::trim;
 use format::Manner;
 use octets::finding::find_byte;
-use code_points::trimming::trim;
 
 // The place of the first space right of the colon; the first reading asks for none.
 pub fn space_at(manner: Manner, right: &[u8]) -> usize

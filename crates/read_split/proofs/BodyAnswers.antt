@@ -1,11 +1,12 @@
 -- The body without a store: what the body is by what was judged, and the answers of the first call. Assumes nothing.
+use Rattle.std.specs.Prelude.{if◌then◌else◌}
 use Prim.Native.Nat.{ℕ, ◌^◌, ◌≤◌, ◌<◌}
 use mathlib.Core.Path.{◌≡◌, refl, sym, ap, ◌∙◌}
 use mathlib.Core.Bool.{Bool, true, false}
 use native.Mathlib.Omega.{arith}
 use lib.ListN.{length}
 use borrow.Author.Tests.{lt-ltb}
-use Rattle.format.specs.Bytes.{Bytes, if◌then◌else◌, over}
+use Rattle.format.specs.Bytes.{Bytes, over}
 use Rattle.format.specs.Limits.{max_body}
 use Rattle.format.specs.Refusals.{Refusal, body_too_long, too_short, table, Out, accepted, refused, numbers, Check, refuse_if, ◌>>◌, ◌>>=◌}
 use Rattle.format.specs.Reading.{Parts, text_parts}

@@ -1,11 +1,12 @@
 -- The part that the second call gives, as the end of the text or the start of the buffer, by what the text's body is. Assumes nothing.
+use Rattle.std.specs.Prelude.{if◌then◌else◌}
 use Prim.Native.Nat.{ℕ, ◌+◌, ◌-◌, ◌≤◌, ◌<◌}
 use mathlib.Core.Path.{◌≡◌, refl, ap, subst, ◌∙◌}
 use mathlib.Core.Bool.{Bool, true, false}
 use native.Mathlib.Omega.{arith}
 use lib.ListN.{length, take, drop, length-take, length-drop}
 use borrow.Author.Tests.{le-leb, lt-leb}
-use Rattle.format.specs.Bytes.{Bytes, if◌then◌else◌}
+use Rattle.format.specs.Bytes.{Bytes}
 use Rattle.format.specs.Refusals.{Refusal, accepted, refused}
 use Rattle.format.specs.LookingUp.{stands_in_text, body_of_text, body_part}
 use Rattle.format.proofs.Lists.{rest_is}

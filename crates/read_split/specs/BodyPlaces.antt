@@ -1,8 +1,8 @@
 -- Where the part stands that the second call for the body gives: in the text under CRLFCRLF, whose end it is, else in the buffer, whose
 -- start it is. Where 1, 24, 2 or 23 applies there is no body, and the empty part that is given stands at the buffer's start, whatever the
 -- separator is: 0 throughout. Assumes nothing.
-use Rattle.std.specs.Prelude.{ℕ, ◌+◌, ◌-◌, ◌≤◌, ◌≡◌, Bool, true, false, length, take, drop}
-use Rattle.format.specs.Bytes.{Bytes, if◌then◌else◌}
+use Rattle.std.specs.Prelude.{ℕ, ◌+◌, ◌-◌, ◌≤◌, ◌≡◌, Bool, true, false, length, take, drop, if◌then◌else◌}
+use Rattle.format.specs.Bytes.{Bytes}
 use Rattle.format.specs.Refusals.{Out, accepted, refused}
 use Rattle.format.specs.LookingUp.{body_of_text, stands_in_text, body_part}
 use Rattle.read_split.specs.declared.BodyPlace.{BodyPlace}

@@ -1,4 +1,5 @@
 -- Lines passed one by one: what stands behind an LF is the end of the text. Assumes nothing.
+use Rattle.std.specs.Prelude.{if◌then◌else◌}
 use Prim.Native.Nat.{ℕ, zero, suc, ◌+◌, ◌-◌, ◌≤◌, ◌<◌}
 use mathlib.Core.Path.{◌≡◌, refl, sym, ap, ◌∙◌}
 use mathlib.Core.Bool.{Bool, true, false}
@@ -7,7 +8,7 @@ use native.Mathlib.Omega.{arith}
 use lib.Dec.{eqb}
 use lib.ListN.{length, take, drop, length-drop}
 use lib.Seq.{take_all, drop-drop}
-use Rattle.format.specs.Bytes.{Bytes, if◌then◌else◌, lf, up_to, past}
+use Rattle.format.specs.Bytes.{Bytes, lf, up_to, past}
 use Rattle.report.specs.Words.{line_at}
 
 past_within : (c : ℕ) (s : Bytes) → length (past c s) ≤ length s

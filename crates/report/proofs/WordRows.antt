@@ -1,4 +1,5 @@
 -- The line of a number, in rows written as lines, is the row of that number: no row has an LF. Every loss has its words. Assumes nothing.
+use Rattle.std.specs.Prelude.{if◌then◌else◌}
 use Prim.Native.Nat.{ℕ, zero, suc, ◌≤◌}
 use mathlib.Core.Path.{◌≡◌, refl, ap, ◌∙◌}
 use mathlib.Core.Bool.{Bool, true, false, not}
@@ -7,7 +8,7 @@ use native.Mathlib.Omega.{arith}
 use lib.Dec.{leb, eqb}
 use lib.ListN.{length}
 use borrow.Author.Tests.{leb-true}
-use Rattle.format.specs.Bytes.{Bytes, if◌then◌else◌, is_empty, all, lf, lf_text, up_to, past, texts}
+use Rattle.format.specs.Bytes.{Bytes, is_empty, all, lf, lf_text, up_to, past, texts}
 use Rattle.format.proofs.Lists.{and_left, and_right, clash}
 use Rattle.report.specs.Words.{row, conditions, reasons, condition, reason, lined, line_at}
 

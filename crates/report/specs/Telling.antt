@@ -1,8 +1,8 @@
 -- What the program `wholecpim` prints for standard input: whether what the gateway would write for the notice comes back whole, and if not,
 -- which entry is lost and why. It is added to document 01: reading is its `read` in stores of 65,536 bytes, as `showcpim` has it, and what is
 -- lost is `loss` (crates/roundtrip/specs/Loss.antt). The words are specs/Words.antt's. Assumes nothing.
-use Rattle.std.specs.Prelude.{ℕ, Bool, ◌||◌, [], ◌++◌, leb, eqb, length}
-use Rattle.format.specs.Bytes.{Bytes, ascii, if◌then◌else◌, lf_text}
+use Rattle.std.specs.Prelude.{ℕ, Bool, ◌||◌, [], ◌++◌, leb, eqb, length, if◌then◌else◌}
+use Rattle.format.specs.Bytes.{Bytes, ascii, lf_text}
 use Rattle.format.specs.Refusals.{Out, accepted, refused, table, too_short}
 use Rattle.format.specs.Message.{Message, name_of, entry_name}
 use Rattle.format.specs.Reading.{read}

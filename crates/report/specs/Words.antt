@@ -1,8 +1,8 @@
 -- Words for what document 01 says by number: the conditions of its table of refusals, and why a message does not come back whole, by the
 -- clause of demand 3's condition that fails (crates/roundtrip/specs/Loss.antt). Assumes nothing.
-use Rattle.std.specs.Prelude.{ℕ, zero, suc, ◌+◌, List, [], ◌∷◌, ◌++◌, eqb}
+use Rattle.std.specs.Prelude.{ℕ, zero, suc, ◌+◌, List, [], ◌∷◌, ◌++◌, eqb, if◌then◌else◌}
 use Rattle.std.proofs.Math.Option.{Option, none, some}
-use Rattle.format.specs.Bytes.{Bytes, ascii, if◌then◌else◌, lf, lf_text, texts, up_to, past}
+use Rattle.format.specs.Bytes.{Bytes, ascii, lf, lf_text, texts, up_to, past}
 use Rattle.format.specs.Escaping.{escape}
 use Rattle.format.specs.Showing.{decimal}
 use Rattle.format.specs.declared.Numbers.{Numbers}

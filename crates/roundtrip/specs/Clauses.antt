@@ -1,8 +1,8 @@
 -- The clauses of both readings' conditions that are asked of each header, of its parameters or of each content header, and the first that
 -- fails one. What a clause asks is said in crates/format/specs, Demand3.antt and SecondReading.antt; here it is asked of an entry as it is
 -- stored. Assumes nothing.
-use Rattle.std.specs.Prelude.{ℕ, suc, Bool, List, [], ◌∷◌, eqb}
-use Rattle.format.specs.Bytes.{if◌then◌else◌, all}
+use Rattle.std.specs.Prelude.{ℕ, suc, Bool, List, [], ◌∷◌, eqb, if◌then◌else◌}
+use Rattle.format.specs.Bytes.{all}
 use Rattle.format.specs.Message.{Entry, Header}
 use Rattle.format.specs.Demand3.{not_type, clear_name, clear_content}
 use Rattle.format.specs.SecondReading.{spaceless_param}

@@ -1,5 +1,6 @@
 -- The parts of a body: they stand one behind another and make it up, and a store that has room for them holds it once they are laid over
 -- it. Assumes nothing.
+use Rattle.std.specs.Prelude.{if◌then◌else◌}
 use Prim.Native.Nat.{ℕ, ◌+◌, ◌≤◌, ◌<◌}
 use mathlib.Core.Path.{◌≡◌, refl, sym, ap, ◌∙◌}
 use mathlib.Core.Bool.{Bool, true, false}
@@ -8,7 +9,7 @@ use native.Mathlib.Omega.{arith}
 use lib.ListN.{length, take, drop, length-append}
 use lib.Seq.{take-append_seam, drop-append_seam}
 use borrow.Author.Tests.{le-leb, lt-leb}
-use Rattle.format.specs.Bytes.{Bytes, if◌then◌else◌, Pieces, crlf_crlf_text, pieces, join, total, texts, pasted, over}
+use Rattle.format.specs.Bytes.{Bytes, Pieces, crlf_crlf_text, pieces, join, total, texts, pasted, over}
 use Rattle.format.specs.Characters.{flat}
 use Rattle.format.specs.Limits.{max_text}
 use Rattle.format.specs.Refusals.{text_too_long, accepted, at_most}

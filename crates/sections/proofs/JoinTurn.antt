@@ -1,5 +1,6 @@
 -- One turn of the joining: the first section of what is left of a text is cut off, its part of the store is filled and put back, and the
 -- parts that are left are those of the sections behind it. Assumes nothing.
+use Rattle.std.specs.Prelude.{if◌then◌else◌}
 use Prim.Native.Nat.{ℕ, ◌+◌, ◌-◌, ◌≤◌, ◌<◌}
 use mathlib.Core.Path.{◌≡◌, sym, ap, ◌∙◌}
 use mathlib.Core.Bool.{Bool, true, false}
@@ -8,7 +9,7 @@ use mathlib.Core.Logic.{⊎_elim}
 use native.Mathlib.Omega.{arith}
 use lib.ListN.{length, take, drop}
 use lib.Seq.{length-take-le, take-length, drop-drop}
-use Rattle.format.specs.Bytes.{Bytes, if◌then◌else◌, lf_lf_text, pieces, split, total, pasted}
+use Rattle.format.specs.Bytes.{Bytes, lf_lf_text, pieces, split, total, pasted}
 use Rattle.format.proofs.Lists.{bcase}
 use Rattle.octets.proofs.Paste.{length_pasted}
 use Rattle.sections.specs.declared.Piece.{Piece}

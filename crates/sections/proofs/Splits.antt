@@ -1,11 +1,12 @@
 -- A text split at one byte: the first part is what stands before the first of them, and the other parts are those of what stands
 -- behind it. Assumes nothing.
+use Rattle.std.specs.Prelude.{if◌then◌else◌}
 use Prim.Native.Nat.{ℕ}
 use mathlib.Core.Path.{◌≡◌, refl, sym, ap, ◌∙◌}
 use mathlib.Core.Bool.{true, false}
 use mathlib.Core.List.{[], ◌∷◌}
 use mathlib.Core.Logic.{⊎_elim}
-use Rattle.format.specs.Bytes.{Bytes, if◌then◌else◌, has, up_to, past, Pieces, pieces, split}
+use Rattle.format.specs.Bytes.{Bytes, has, up_to, past, Pieces, pieces, split}
 use Rattle.format.proofs.Lists.{bcase}
 use Rattle.format.proofs.Splitting.Split.{split_line, split_none, occurs_clear, up_to_past, up_to_clear, up_to_none}
 

@@ -1,6 +1,6 @@
 -- The body of a text whose separator is LFLF, and the part of a store that each of its sections fills. Assumes nothing.
-use Rattle.std.specs.Prelude.{ℕ, ◌+◌, Bool, true, false, List, [], ◌∷◌, ◌++◌, leb, length}
-use Rattle.format.specs.Bytes.{Bytes, if◌then◌else◌, lf_lf_text, crlf_crlf_text, pieces, split, pasted}
+use Rattle.std.specs.Prelude.{ℕ, ◌+◌, Bool, true, false, List, [], ◌∷◌, ◌++◌, leb, length, if◌then◌else◌}
+use Rattle.format.specs.Bytes.{Bytes, lf_lf_text, crlf_crlf_text, pieces, split, pasted}
 use Rattle.format.specs.Reading.{body_of}
 
 -- the pieces of a text between its LFLF, joined by CRLFCRLF

@@ -1,6 +1,6 @@
 -- A text cut at its first separator, the places of its first three sections, and what reading makes of them. Assumes nothing.
-use Rattle.std.specs.Prelude.{ℕ, ◌+◌, ◌-◌, Bool, true, false, List, [], ◌∷◌, length, take, drop}
-use Rattle.format.specs.Bytes.{Bytes, if◌then◌else◌, lf_text, crlf_text, lf_lf_text, crlf_crlf_text, occurs, pieces, split}
+use Rattle.std.specs.Prelude.{ℕ, ◌+◌, ◌-◌, Bool, true, false, List, [], ◌∷◌, length, take, drop, if◌then◌else◌}
+use Rattle.format.specs.Bytes.{Bytes, lf_text, crlf_text, lf_lf_text, crlf_crlf_text, occurs, pieces, split}
 use Rattle.format.specs.Reading.{Parts, body_of}
 use Rattle.format.specs.Refusals.{too_few_sections, Out, accepted, refused}
 use Rattle.sections.specs.Place.{place}

@@ -1,8 +1,8 @@
 // Document 01, "Reading": the body of a text whose separator is LFLF, "sections from the fourth, joined by CRLFCRLF": its
 // length, and its bytes, copied section by section into parts of a store that stand one behind another.
 
-ghost use Rattle.std.specs.Prelude.{◌≡◌, ◌+◌, ◌≤◌, length};
-ghost use Rattle.format.specs.Bytes.{lf_lf_text, if◌then◌else◌, pieces, split};
+ghost use Rattle.std.specs.Prelude.{◌≡◌, ◌+◌, ◌≤◌, length, if◌then◌else◌};
+ghost use Rattle.format.specs.Bytes.{lf_lf_text, pieces, split};
 ghost use Rattle.format.specs.Limits.{max_text};
 ghost use Rattle.sections.specs.Body.{joined, led, body_parts, filled};
 

@@ -1,8 +1,8 @@
 // Document 01, "Reading": a line before and behind its first colon, a part before and behind its first `=`, and the parts
 // between `;`, of which the first is what stands before the first `;`, and the others are those of what stands behind it.
 
-ghost use Rattle.std.specs.Prelude.{◌≡◌, [], ◌∷◌};
-ghost use Rattle.format.specs.Bytes.{if◌then◌else◌, has, up_to, past, pieces, split};
+ghost use Rattle.std.specs.Prelude.{◌≡◌, [], ◌∷◌, if◌then◌else◌};
+ghost use Rattle.format.specs.Bytes.{has, up_to, past, pieces, split};
 
 use octets::finding::find_byte;
 

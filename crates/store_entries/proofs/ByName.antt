@@ -1,11 +1,12 @@
 -- A list in the order of its names falls into the elements of names before k, those of the name k, and those of names behind it; so do
 -- the list with an element inserted, and the list without those of the name. Assumes nothing.
+use Rattle.std.specs.Prelude.{if◌then◌else◌}
 use mathlib.Core.Path.{◌≡◌, refl, sym, ap, ◌∙◌}
 use mathlib.Core.Bool.{Bool, true, false, not}
 use mathlib.Core.List.{List, [], ◌∷◌, ◌++◌, append-nil, map}
 use mathlib.Core.Logic.{⊎_elim}
 use borrow.Author.Tests.{not-true}
-use Rattle.format.specs.Bytes.{Bytes, if◌then◌else◌, all, same, before}
+use Rattle.format.specs.Bytes.{Bytes, all, same, before}
 use Rattle.format.specs.Message.{insert, without, only, ascending}
 use Rattle.format.proofs.Lists.{bcase, clash, all_head, all_tail, all_cons, all_map, same_eq, same_refl}
 use Rattle.format.proofs.Messages.Order.{before_irreflexive, before_asym, before_total, not_before_transitive}

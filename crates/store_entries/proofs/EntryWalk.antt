@@ -1,4 +1,5 @@
 -- Passing over entries one by one: what stands before the place reached, and what is left behind it. Assumes nothing.
+use Rattle.std.specs.Prelude.{if◌then◌else◌}
 use Prim.Native.Nat.{ℕ, zero, suc, ◌+◌, ◌-◌, ◌≤◌, ◌<◌}
 use mathlib.Core.Path.{◌≡◌, refl, sym, ap, ◌∙◌}
 use mathlib.Core.Bool.{Bool, true, false}
@@ -7,7 +8,7 @@ use native.Mathlib.Nat.{add_assoc}
 use native.Mathlib.Omega.{arith}
 use lib.ListN.{length, drop, length-drop}
 use lib.Seq.{drop-drop}
-use Rattle.format.specs.Bytes.{Bytes, if◌then◌else◌, total}
+use Rattle.format.specs.Bytes.{Bytes, total}
 use Rattle.store_entries.specs.Stored.{Stored, stored_size, size_in, stored_in, shaped, shaped_all, entries_in}
 use Rattle.store_entries.proofs.EntryShape.{Shape, shape}
 use Rattle.store_entries.proofs.EntryRead.{stored_size_lem}

@@ -1,6 +1,6 @@
 -- Entries passed over, as long as their names are before one or that very one. Assumes nothing.
-use Rattle.std.specs.Prelude.{Bool, true, false, List, [], ◌∷◌}
-use Rattle.format.specs.Bytes.{Bytes, if◌then◌else◌, same, before}
+use Rattle.std.specs.Prelude.{Bool, true, false, List, [], ◌∷◌, if◌then◌else◌}
+use Rattle.format.specs.Bytes.{Bytes, same, before}
 use Rattle.store_entries.specs.Stored.{Stored}
 
 module _ {A : Type 0} where

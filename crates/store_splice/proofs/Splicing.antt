@@ -1,5 +1,6 @@
 -- An entry written part by part is the entry pasted, and an entry pasted before moved bytes is the used bytes spliced.
 -- Assumes nothing.
+use Rattle.std.specs.Prelude.{if◌then◌else◌}
 use Prim.Native.Nat.{ℕ, ◌+◌, ◌-◌, ◌≤◌}
 use mathlib.Core.Path.{◌≡◌, refl, sym, ap, ◌∙◌}
 use mathlib.Core.Bool.{Bool, true, false}
@@ -7,7 +8,7 @@ use mathlib.Core.List.{List, ◌∷◌, ◌++◌, append_assoc}
 use native.Mathlib.Omega.{arith}
 use lib.ListN.{length, take, drop, length-append, length-take, length-drop}
 use lib.Seq.{length-take-le, take-take, take-append_seam, drop-append-add, drop-append_seam}
-use Rattle.format.specs.Bytes.{Bytes, if◌then◌else◌, total, texts, pasted, over}
+use Rattle.format.specs.Bytes.{Bytes, total, texts, pasted, over}
 use Rattle.format.specs.Layout.{fixed, entry_bytes}
 use Rattle.format.proofs.Lists.{texts_append, total_append}
 use Rattle.octets.proofs.Paste.{pasted_pasted, pasted_front, drop_take}

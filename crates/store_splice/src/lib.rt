@@ -3,8 +3,8 @@
 
 #![tactic(auto)]
 
-ghost use Rattle.std.specs.Prelude.{◌≡◌, true, ◌++◌, ◌+◌, ◌-◌, ◌≤◌, ◌<◌, ltb, length, take, drop};
-ghost use Rattle.format.specs.Bytes.{if◌then◌else◌, pasted, over};
+ghost use Rattle.std.specs.Prelude.{◌≡◌, true, ◌++◌, ◌+◌, ◌-◌, ◌≤◌, ◌<◌, ltb, length, take, drop, if◌then◌else◌};
+ghost use Rattle.format.specs.Bytes.{pasted, over};
 ghost use Rattle.format.specs.Refusals.{numbers};
 ghost use Rattle.format.specs.Calls.{room};
 ghost use Rattle.format.specs.Layout.{fixed, entry_bytes};

@@ -1,4 +1,5 @@
 -- One turn of the loops: a stretch without a backslash is read as it is, and then the escape behind it. Assumes nothing.
+use Rattle.std.specs.Prelude.{if◌then◌else◌}
 use Prim.Native.Nat.{ℕ, suc, ◌+◌, ◌≤◌, ◌<◌}
 use mathlib.Core.Path.{◌≡◌, refl, sym, ap, ◌∙◌}
 use mathlib.Core.Bool.{Bool, true, false, false≢true}
@@ -9,7 +10,7 @@ use lib.Dec.{eqb}
 use lib.ListN.{length, take, drop, length-append, length-drop, take-append-drop, drop_of_length-le}
 use lib.Seq.{drop-drop, length-take-le}
 use borrow.Author.Tests.{eqb-true, eqb-false, ne_eqb}
-use Rattle.format.specs.Bytes.{Bytes, if◌then◌else◌, all, up_to, pasted}
+use Rattle.format.specs.Bytes.{Bytes, all, up_to, pasted}
 use Rattle.format.specs.Escaping.{Escape, escape_at, takes_of, in_front, escaped, unescape_from, unescape_by}
 use Rattle.format.specs.declared.Manner.{Manner}
 use Rattle.format.proofs.Escaping.Unescape.{unescape_skip, behind_behind, plain, plain_read, sound}

@@ -1,7 +1,6 @@
 -- What the functions answer for the options of document 01's definitions: a `Read` for an escape. Assumes nothing.
-use Rattle.std.specs.Prelude.{ℕ, eqb}
+use Rattle.std.specs.Prelude.{ℕ, eqb, if◌then◌else◌}
 use Rattle.std.proofs.Math.Option.{Option, none, some}
-use Rattle.format.specs.Bytes.{if◌then◌else◌}
 use Rattle.format.specs.Characters.{encoding}
 use Rattle.format.specs.Escaping.{Escape, scalar_escape}
 use Rattle.unescape.specs.declared.backslash.Read.{Read}

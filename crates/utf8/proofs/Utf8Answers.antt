@@ -1,4 +1,5 @@
 -- Each answer of the code is the definition's at its case. Assumes nothing.
+use Rattle.std.specs.Prelude.{if◌then◌else◌}
 use Prim.Native.Nat.{ℕ, zero, suc, ◌+◌, ◌-◌, ◌≤◌, ◌<◌, max}
 use mathlib.Core.Path.{◌≡◌, refl, sym, ap, ◌∙◌}
 use mathlib.Core.Bool.{true, false, not, ◌&&◌, and-false}
@@ -10,7 +11,7 @@ use lib.Dec.{ltb, leb}
 use lib.ListN.{length, take, drop, get_or, drop_of_length-le}
 use lib.Seq.{drop-cons}
 use borrow.Author.Tests.{lt-ltb, le-ltb, le-leb, lt-leb}
-use Rattle.format.specs.Bytes.{Bytes, if◌then◌else◌, all}
+use Rattle.format.specs.Bytes.{Bytes, all}
 use Rattle.format.proofs.Lists.{bcase, below}
 use Rattle.utf8.specs.Sound.{all_sound, bit}
 use Rattle.utf8.specs.Blocks.{is_settled, largest_of, whole_end, sound_end, block_end, blocks_from, blocks_end}

@@ -1,7 +1,7 @@
 -- Where a block may begin or end, and how far going over blocks leads. That all gone over is UTF-8 is proved of these, not said in
 -- them. Assumes nothing.
-use Rattle.std.specs.Prelude.{ℕ, zero, suc, ◌+◌, ◌-◌, ◌<◌, max, Bool, ◌&&◌, [], ◌∷◌, leb, ltb, length, take, drop, get_or}
-use Rattle.format.specs.Bytes.{Bytes, if◌then◌else◌, all}
+use Rattle.std.specs.Prelude.{ℕ, zero, suc, ◌+◌, ◌-◌, ◌<◌, max, Bool, ◌&&◌, [], ◌∷◌, leb, ltb, length, take, drop, get_or, if◌then◌else◌}
+use Rattle.format.specs.Bytes.{Bytes, all}
 use Rattle.utf8.specs.Sound.{all_sound}
 
 -- no character reaches over the place three behind k

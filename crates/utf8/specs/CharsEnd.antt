@@ -1,6 +1,6 @@
 -- The parts of a text that are gone over at a time, and how far going over characters, one by one, leads. Assumes nothing.
-use Rattle.std.specs.Prelude.{ℕ, ◌+◌, min, ◌&&◌, List, [], ◌∷◌, ltb, length, drop}
-use Rattle.format.specs.Bytes.{Bytes, if◌then◌else◌}
+use Rattle.std.specs.Prelude.{ℕ, ◌+◌, min, ◌&&◌, List, [], ◌∷◌, ltb, length, drop, if◌then◌else◌}
+use Rattle.format.specs.Bytes.{Bytes}
 use Rattle.format.specs.Characters.{well_formed, chars}
 
 -- the end of the part from a place on: 64 bytes behind it, or the text's end where it is nearer

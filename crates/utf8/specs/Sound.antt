@@ -1,7 +1,7 @@
 -- What the test of a block asks of each byte, by the three bytes before it. It is not UTF-8 itself: proofs/Walk.antt derives
 -- Table 3-7 from it. Assumes nothing.
-use Rattle.std.specs.Prelude.{ℕ, zero, suc, ◌+◌, ◌≤◌, ◌<◌, ◌≡◌, Bool, true, false, ◌&&◌, ◌||◌, ◌⊎◌, leb, ltb, eqb, get_or}
-use Rattle.format.specs.Bytes.{Bytes, if◌then◌else◌}
+use Rattle.std.specs.Prelude.{ℕ, zero, suc, ◌+◌, ◌≤◌, ◌<◌, ◌≡◌, Bool, true, false, ◌&&◌, ◌||◌, ◌⊎◌, leb, ltb, eqb, get_or, if◌then◌else◌}
+use Rattle.format.specs.Bytes.{Bytes}
 
 abbrev pub Trailing : ℕ → Type 0
 Trailing b = (0x80 ≤ b) × (b ≤ 0xBF)

@@ -1,4 +1,5 @@
 -- How long the parts of a text are, by what the store says of them. Assumes nothing.
+use Rattle.std.specs.Prelude.{if◌then◌else◌}
 use Prim.Native.Nat.{ℕ, zero, suc, ◌+◌, ◌*◌, ◌≤◌, ◌<◌}
 use mathlib.Core.Path.{◌≡◌, sym, ap, ◌∙◌}
 use mathlib.Core.Bool.{Bool, true, false}
@@ -6,7 +7,7 @@ use mathlib.Core.List.{List, [], ◌∷◌, ◌++◌}
 use native.Mathlib.Omega.{arith}
 use lib.ListN.{length, take, drop, length-append, length-drop}
 use lib.Seq.{length-take-le}
-use Rattle.format.specs.Bytes.{Bytes, if◌then◌else◌, ascii, crlf_text, texts}
+use Rattle.format.specs.Bytes.{Bytes, ascii, crlf_text, texts}
 use Rattle.format.specs.Characters.{trailing, well_formed, replacement, or_replaced, replaced}
 use Rattle.format.specs.Escaping.{value_text}
 use Rattle.format.specs.Message.{Entry, Header, Message, need_entry}

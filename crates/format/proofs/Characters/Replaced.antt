@@ -1,9 +1,10 @@
 -- Document 01, "Characters": with each maximal ill-formed subpart replaced by U+FFFD any bytes are UTF-8, and only a text that is
 -- UTF-8 already stays as it is. Both follow from the characters of a join. Assumes nothing.
+use Rattle.std.specs.Prelude.{if◌then◌else◌}
 use mathlib.Core.Path.{◌≡◌, refl, sym, ap, ◌∙◌}
 use mathlib.Core.Bool.{Bool, true, false}
 use mathlib.Core.List.{List, [], ◌∷◌}
-use Rattle.format.specs.Bytes.{Bytes, if◌then◌else◌, all, texts}
+use Rattle.format.specs.Bytes.{Bytes, all, texts}
 use Rattle.format.specs.Characters.{trail_in, fits, well_formed, is_utf8, chars, flat, replacement, or_replaced, replaced}
 use Rattle.format.proofs.Lists.{all_head, all_tail, all_cons}
 use Rattle.format.proofs.Characters.Chars.{flat_chars, utf8_whole, utf8_texts}

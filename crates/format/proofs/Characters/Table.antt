@@ -1,5 +1,6 @@
 -- Laws of a table of lead and trailing ranges, and the tests that Table 3-7 passes. Each fact of its nine rows is one test that
 -- computes; the laws carry it to the row that a lead byte picks. Assumes nothing.
+use Rattle.std.specs.Prelude.{if◌then◌else◌}
 use Prim.Native.Nat.{ℕ, zero, suc, ◌≤◌, ◌<◌}
 use mathlib.Core.Path.{◌≡◌, refl, ap}
 use mathlib.Core.Bool.{Bool, true, false, ◌&&◌, false≢true, and-false}
@@ -10,7 +11,7 @@ use native.Mathlib.Omega.{arith}
 use lib.Dec.{leb, ltb}
 use lib.ListN.{length, get_or}
 use borrow.Author.Tests.{leb-true, le-leb, lt-leb, ltb-true}
-use Rattle.format.specs.Bytes.{Bytes, if◌then◌else◌, all}
+use Rattle.format.specs.Bytes.{Bytes, all}
 use Rattle.format.specs.Characters.{Range, ◌to◌, within, Row, row, table_3_7, trail_in, trail_of, fits, well_formed, matched}
 use Rattle.format.proofs.Lists.{bcase, and_left, and_right, and_intro, all_head, all_tail, all_get_d}
 

@@ -1,6 +1,7 @@
 -- A character as `escape` writes it reads back in either manner, is UTF-8, has no control byte, and has at most six bytes for one. A text reads back, and has
 -- at most six bytes for one.
 -- One fact about each character carries it: written bare it is no control, else it is written in visible ASCII that reads as the character.
+use Rattle.std.specs.Prelude.{if◌then◌else◌}
 use Prim.Native.Nat.{ℕ, suc, ◌+◌, ◌*◌, ◌/◌, ◌%◌, ◌≤◌, ◌<◌}
 use mathlib.Core.Path.{◌≡◌, refl, sym, ap, ◌∙◌}
 use mathlib.Core.Bool.{Bool, true, false, ◌&&◌, ◌||◌, and-false}
@@ -11,7 +12,7 @@ use native.Mathlib.Omega.{arith}
 use lib.Dec.{leb, ltb, eqb}
 use lib.ListN.{length, length-append}
 use borrow.Author.Tests.{eqb-true, leb-true, ltb-true, ltb-false, ne_eqb, le-leb, lt-leb, lt-ltb}
-use Rattle.format.specs.Bytes.{Bytes, if◌then◌else◌, all, any, texts, backslash, plus}
+use Rattle.format.specs.Bytes.{Bytes, all, any, texts, backslash, plus}
 use Rattle.format.specs.Characters.{chars, trail_in, fits, well_formed, is_utf8, flat, within, ◌to◌, code_point, encoding, is_scalar, is_white, is_control, is_control_code, is_lost}
 use Rattle.format.specs.Escaping.{digit, unicode_escape, short_form, long_form, short_or, escape_char, escape, digit_value, first_digit, four_digits, scalar_escape, long_escape, one_byte, short_escape, escape_at, in_front, unescape_from, unescape_by}
 use Rattle.format.specs.declared.Manner.{Manner}

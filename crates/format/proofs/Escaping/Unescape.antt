@@ -1,5 +1,6 @@
 -- What reading escapes gives: UTF-8 from UTF-8, and never more bytes than were read.
 -- A backslash, a digit and a plus are ASCII, so an escape ends where a character ends; a character of several bytes holds no backslash.
+use Rattle.std.specs.Prelude.{if◌then◌else◌}
 use Prim.Native.Nat.{ℕ, zero, suc, ◌-◌, ◌≤◌, ◌<◌}
 use mathlib.Core.Path.{◌≡◌, refl, sym, ap, ◌∙◌}
 use mathlib.Core.Bool.{Bool, true, false, not, ◌&&◌}
@@ -10,7 +11,7 @@ use native.Mathlib.Omega.{arith}
 use lib.Dec.{leb, ltb, eqb}
 use lib.ListN.{length, take, drop, length-append, length-drop, take-append-drop}
 use borrow.Author.Tests.{eqb-true, leb-true, ne_eqb, not-true}
-use Rattle.format.specs.Bytes.{Bytes, if◌then◌else◌, all, backslash, plus}
+use Rattle.format.specs.Bytes.{Bytes, all, backslash, plus}
 use Rattle.format.specs.Characters.{◌to◌, within, well_formed, is_utf8, trailing, encoding, is_scalar}
 use Rattle.format.specs.Escaping.{digit_value, shifted, first_digit, four_digits, Escape, scalar_escape, long_escape, one_byte, apostrophe_escape, short_escape, escape_at, takes_of, in_front, escaped, unescape_from, unescape_by}
 use Rattle.format.specs.declared.Manner.{Manner}

@@ -1,5 +1,6 @@
 -- Splitting, joining and searching: what is split and joined again is the text, a stretch without the separator's first
 -- byte is passed over whole, and the separator itself is cut out. The step over one byte carries all of them. Assumes nothing.
+use Rattle.std.specs.Prelude.{if◌then◌else◌}
 use Prim.Native.Nat.{ℕ, zero, suc, ◌-◌, ◌<◌}
 use mathlib.Core.Path.{◌≡◌, refl, sym, ap, ◌∙◌}
 use mathlib.Core.Bool.{Bool, true, false, ◌||◌, false≢true, or_assoc}
@@ -10,7 +11,7 @@ use lib.Dec.{leb, eqb}
 use lib.ListN.{length, drop}
 use lib.Seq.{drop-nil, drop-append_seam}
 use borrow.Author.Tests.{eqb-true, eq-eqb, ne_eqb, leb-true}
-use Rattle.format.specs.Bytes.{Bytes, if◌then◌else◌, all, any, texts, begins, occurs, has, up_to, past, Pieces, pieces, opened, extended, split_from, split, join}
+use Rattle.format.specs.Bytes.{Bytes, all, any, texts, begins, occurs, has, up_to, past, Pieces, pieces, opened, extended, split_from, split, join}
 use Rattle.format.proofs.Lists.{bcase, and_left, and_right, and_intro, or_false_left, or_false_right, or_intro_right, all_head, all_tail}
 
 pub begins_append : (p t : Bytes) → begins p (p ++ t) ≡ true

@@ -1,13 +1,14 @@
 -- The need as a measure: what is read back of a header or content header needs at most what it needed itself, and where the sums
 -- are equal nothing was stripped from any of them. A sum of parts, none of which grows, is equal only where each
 -- part is. Assumes nothing.
+use Rattle.std.specs.Prelude.{if◌then◌else◌}
 use Prim.Native.Nat.{ℕ, ◌≤◌}
 use mathlib.Core.Path.{◌≡◌, refl, sym, ap, ◌∙◌}
 use mathlib.Core.Bool.{Bool, true, false, not, ◌&&◌}
 use mathlib.Core.Logic.{⊎_elim}
 use mathlib.Core.List.{List, [], ◌∷◌}
 use native.Mathlib.Omega.{arith}
-use Rattle.format.specs.Bytes.{Bytes, ascii, if◌then◌else◌, all, total, same_letters}
+use Rattle.format.specs.Bytes.{Bytes, ascii, all, total, same_letters}
 use Rattle.format.specs.Characters.{is_white, trim, clear_ends}
 use Rattle.format.specs.Message.{Entry, entry, Header, need_entry, need_alone, need_header}
 use Rattle.format.specs.Demand3.{not_type, clear_name, clear_content}

@@ -1,6 +1,7 @@
 -- What the lines of T do to the message that is read, line by line and all together: a header line adds one header, a content line sets the
 -- type or one content header, and neither adds more than the entry had. Each follows from what an accepted line answers, by induction over
 -- the lines. Assumes nothing.
+use Rattle.std.specs.Prelude.{if◌then◌else◌}
 use Prim.Native.Nat.{ℕ, suc, ◌+◌, ◌≤◌}
 use mathlib.Core.Path.{◌≡◌, refl, sym, ap, ◌∙◌}
 use mathlib.Core.Bool.{Bool, true, false, ◌&&◌}
@@ -9,7 +10,7 @@ use mathlib.Core.List.{List, [], ◌∷◌, ◌++◌, map}
 use native.Mathlib.Omega.{arith}
 use lib.Dec.{ltb}
 use borrow.Author.Tests.{not-true, ltb-true, ltb-false}
-use Rattle.format.specs.Bytes.{is_empty, Bytes, ascii, if◌then◌else◌, colon, all, total, texts, has, up_to, past}
+use Rattle.format.specs.Bytes.{is_empty, Bytes, ascii, colon, all, total, texts, has, up_to, past}
 use Rattle.format.specs.Characters.{is_white, trim, clear_ends}
 use Rattle.format.specs.Escaping.{value_text}
 use Rattle.format.specs.Refusals.{Out, accepted, ◌>>=◌}

@@ -1,5 +1,6 @@
 -- Document 02, T-01: parameters as they are written, `;` before each, are read back part by part. Weighed by its length and 14 for each `;`, the
 -- text of parameters weighs their need, and what is read of any text needs at most what the text weighs. Assumes nothing.
+use Rattle.std.specs.Prelude.{if◌then◌else◌}
 use Prim.Native.Nat.{ℕ, suc, ◌+◌, ◌≤◌, ◌<◌}
 use mathlib.Core.Path.{◌≡◌, refl, sym, ap, ◌∙◌}
 use mathlib.Core.Bool.{true, false}
@@ -8,7 +9,7 @@ use mathlib.Core.List.{List, [], ◌∷◌, ◌++◌, map, append_assoc, append-
 use native.Mathlib.Omega.{arith}
 use lib.Dec.{eqb}
 use lib.ListN.{length, length-append}
-use Rattle.format.specs.Bytes.{Bytes, ascii, if◌then◌else◌, all, any, total, texts, semicolon, equals, space, has, up_to, past, Pieces, split, split_from, begins, before}
+use Rattle.format.specs.Bytes.{Bytes, ascii, all, any, total, texts, semicolon, equals, space, has, up_to, past, Pieces, split, split_from, begins, before}
 use Rattle.format.specs.Characters.{is_ascii_control}
 use Rattle.format.specs.Limits.{max_params}
 use Rattle.format.specs.Refusals.{param_lacks_equals, too_many_params, accepted}
