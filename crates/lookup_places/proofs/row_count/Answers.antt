@@ -1,0 +1,38 @@
+-- `lookup_places::row_count` meets its contract. Assumes nothing.
+use mathlib.Core.Path.{refl}
+use Prim.Native.Nat.{◌+◌, ◌≤◌}
+use native.Mathlib.Omega.{arith}
+use lib.ListN.{length}
+use Rattle.store_check.proofs.HeldCases.{used_within}
+use Rattle.lookup.proofs.Counting.{headers_few, headers_in_order}
+use Rattle.lookup_places.specs.Fronts.{rows_held}
+use Rattle.lookup_places.proofs.PlacesExits.{few}
+use Rattle.lookup_places.proofs.row_count.Goals as goal
+
+pub overflow_add-to : goal.overflow_add-to
+overflow_add-to c =
+    let within : 256 + (c.args.m.headerlen + c.args.m.contentlen) ≤ length c.args.head.now = used_within c.args.m c.args.head.now c.requires in
+    omega (arith, within)
+
+pub slice_bounds-count_all-end : goal.slice_bounds-count_all-end
+slice_bounds-count_all-end c =
+    let within : 256 + (c.args.m.headerlen + c.args.m.contentlen) ≤ length c.args.head.now = used_within c.args.m c.args.head.now c.requires in
+    omega (arith, within)
+
+pub count_all-requires : goal.count_all-requires
+count_all-requires c =
+    (headers_in_order c.args.m c.args.head.now c.requires, headers_few c.args.m c.args.head.now c.requires)
+
+pub overflow_add-result : goal.overflow_add-result
+unfolding rows_held
+overflow_add-result c =
+    omega (arith, few c.args.m c.args.head.now c.requires, c.count_all.ensures)
+
+pub overflow_add-result-2 : goal.overflow_add-result-2
+unfolding rows_held
+overflow_add-result-2 c =
+    omega (arith, few c.args.m c.args.head.now c.requires, c.count_all.ensures)
+
+pub returns : goal.returns
+unfolding rows_held
+returns c = rw c.count_all.ensures refl
