@@ -8,6 +8,19 @@ use Rattle.format.specs.Characters.{is_utf8}
 use Rattle.store_check.specs.Holding.{message_holds}
 use Rattle.lookup_named.proofs.Grouping.{none_unheld, none_unnamed, named_within, named_listed}
 use Rattle.lookup_named.proofs.headers_named.Goals as goal
+use Rattle.lookup_named.proofs.headers_named.Goals.{Else-not-message_holds, Else-not-is_utf8, After-headers_of-g}
+
+holds : (c : Else-not-message_holds) → message_holds c.args.m c.args.head.now ≡ true
+holds c = sym c.message_holds.ensures ∙ c.if-not-message_holds.false
+
+utf8 : (c : Else-not-is_utf8) → is_utf8 c.args.name.now ≡ true
+utf8 c = sym c.is_utf8.ensures ∙ c.if-not-is_utf8.false
+
+within : (c : After-headers_of-g) → 256 + (c.headers_of-g.result.at + c.headers_of-g.result.size) ≤ length c.args.head.now
+within c =
+    let holds : message_holds c.args.m c.args.head.now ≡ true = sym c.message_holds.ensures ∙ c.if-not-message_holds.false in
+    let args = c.args in
+    named_within args.m args.head.now args.name.now _ _ _ holds c.headers_of-g.ensures
 
 pub returns-then-not-message_holds : goal.returns-then-not-message_holds
 returns-then-not-message_holds c =
@@ -20,34 +33,18 @@ returns-then-not-is_utf8 c =
     λ o _. none_unnamed args.name.now (sym c.is_utf8.ensures ∙ c.if-not-is_utf8.true) o
 
 pub headers_of-g-requires : goal.headers_of-g-requires
-headers_of-g-requires c =
-    let holds : message_holds c.args.m c.args.head.now ≡ true = sym c.message_holds.ensures ∙ c.if-not-message_holds.false in
-    holds
+headers_of-g-requires c = holds (goal.at.headers_of-g-requires c).Else-not-message_holds
 
 pub overflow_add-from : goal.overflow_add-from
-overflow_add-from c =
-    let holds : message_holds c.args.m c.args.head.now ≡ true = sym c.message_holds.ensures ∙ c.if-not-message_holds.false in
-    let within : 256 + (c.headers_of-g.result.at + c.headers_of-g.result.size) ≤ length c.args.head.now = let args = c.args in
-    named_within args.m args.head.now args.name.now _ _ _ holds c.headers_of-g.ensures in
-    omega (arith, within)
+overflow_add-from c = omega (arith, within (goal.at.overflow_add-from c).After-headers_of-g)
 
 pub overflow_add-to : goal.overflow_add-to
-overflow_add-to c =
-    let holds : message_holds c.args.m c.args.head.now ≡ true = sym c.message_holds.ensures ∙ c.if-not-message_holds.false in
-    let within : 256 + (c.headers_of-g.result.at + c.headers_of-g.result.size) ≤ length c.args.head.now = let args = c.args in
-    named_within args.m args.head.now args.name.now _ _ _ holds c.headers_of-g.ensures in
-    omega (arith, within)
+overflow_add-to c = omega (arith, within (goal.at.overflow_add-to c).After-headers_of-g)
 
 pub slice_bounds-result-end-2 : goal.slice_bounds-result-end-2
-slice_bounds-result-end-2 c =
-    let holds : message_holds c.args.m c.args.head.now ≡ true = sym c.message_holds.ensures ∙ c.if-not-message_holds.false in
-    let within : 256 + (c.headers_of-g.result.at + c.headers_of-g.result.size) ≤ length c.args.head.now = let args = c.args in
-    named_within args.m args.head.now args.name.now _ _ _ holds c.headers_of-g.ensures in
-    omega (arith, within)
+slice_bounds-result-end-2 c = omega (arith, within (goal.at.slice_bounds-result-end-2 c).After-headers_of-g)
 
 pub returns : goal.returns
 returns c =
-    let holds : message_holds c.args.m c.args.head.now ≡ true = sym c.message_holds.ensures ∙ c.if-not-message_holds.false in
-    let utf8 : is_utf8 c.args.name.now ≡ true = sym c.is_utf8.ensures ∙ c.if-not-is_utf8.false in
     let args = c.args in
-    named_listed args.m args.head.now args.name.now _ _ _ holds c.headers_of-g.ensures utf8
+    named_listed args.m args.head.now args.name.now _ _ _ (holds (goal.at.returns c).Else-not-message_holds) c.headers_of-g.ensures (utf8 (goal.at.returns c).Else-not-is_utf8)

@@ -8,16 +8,16 @@ use Rattle.lookup.proofs.Counting.{headers_few, headers_in_order}
 use Rattle.lookup_places.specs.Fronts.{rows_held}
 use Rattle.lookup_places.proofs.PlacesExits.{few}
 use Rattle.lookup_places.proofs.row_count.Goals as goal
+use Rattle.lookup_places.proofs.row_count.Goals.{Start}
+
+within : (c : Start) → 256 + (c.args.m.headerlen + c.args.m.contentlen) ≤ length c.args.head.now
+within c = used_within c.args.m c.args.head.now c.requires
 
 pub overflow_add-to : goal.overflow_add-to
-overflow_add-to c =
-    let within : 256 + (c.args.m.headerlen + c.args.m.contentlen) ≤ length c.args.head.now = used_within c.args.m c.args.head.now c.requires in
-    omega (arith, within)
+overflow_add-to c = omega (arith, within (goal.at.overflow_add-to c).Start)
 
 pub slice_bounds-count_all-end : goal.slice_bounds-count_all-end
-slice_bounds-count_all-end c =
-    let within : 256 + (c.args.m.headerlen + c.args.m.contentlen) ≤ length c.args.head.now = used_within c.args.m c.args.head.now c.requires in
-    omega (arith, within)
+slice_bounds-count_all-end c = omega (arith, within (goal.at.slice_bounds-count_all-end c).Start)
 
 pub count_all-requires : goal.count_all-requires
 count_all-requires c =

@@ -6,6 +6,10 @@ use Rattle.store_check.specs.Holding.{message_holds}
 use Rattle.store_check.proofs.HeldCases.{used_within}
 use Rattle.lookup.proofs.Counting.{none_params, headers_few, headers_in_order, params_counted}
 use Rattle.lookup.proofs.counts.count_params.Goals as goal
+use Rattle.lookup.proofs.counts.count_params.Goals.{Else-not-message_holds}
+
+holds : (c : Else-not-message_holds) → message_holds c.args.m c.args.head.now ≡ true
+holds c = sym c.message_holds.ensures ∙ c.if-not-message_holds.false
 
 pub returns-then-not-message_holds : goal.returns-then-not-message_holds
 returns-then-not-message_holds c =
@@ -14,24 +18,20 @@ returns-then-not-message_holds c =
 
 pub overflow_add-to : goal.overflow_add-to
 overflow_add-to c =
-    let holds : message_holds c.args.m c.args.head.now ≡ true = sym c.message_holds.ensures ∙ c.if-not-message_holds.false in
     let args = c.args in
-    omega (arith, used_within args.m args.head.now holds)
+    omega (arith, used_within args.m args.head.now (holds (goal.at.overflow_add-to c).Else-not-message_holds))
 
 pub slice_bounds-count_all-end : goal.slice_bounds-count_all-end
 slice_bounds-count_all-end c =
-    let holds : message_holds c.args.m c.args.head.now ≡ true = sym c.message_holds.ensures ∙ c.if-not-message_holds.false in
     let args = c.args in
-    omega (arith, used_within args.m args.head.now holds)
+    omega (arith, used_within args.m args.head.now (holds (goal.at.slice_bounds-count_all-end c).Else-not-message_holds))
 
 pub count_all-requires : goal.count_all-requires
 count_all-requires c =
-    let holds : message_holds c.args.m c.args.head.now ≡ true = sym c.message_holds.ensures ∙ c.if-not-message_holds.false in
     let args = c.args in
-    (headers_in_order args.m args.head.now holds, headers_few args.m args.head.now holds)
+    (headers_in_order args.m args.head.now (holds (goal.at.count_all-requires c).Else-not-message_holds), headers_few args.m args.head.now (holds (goal.at.count_all-requires c).Else-not-message_holds))
 
 pub returns : goal.returns
 returns c =
-    let holds : message_holds c.args.m c.args.head.now ≡ true = sym c.message_holds.ensures ∙ c.if-not-message_holds.false in
     let args = c.args in
-    params_counted args.m args.head.now holds c.count_all.result c.count_all.ensures
+    params_counted args.m args.head.now (holds (goal.at.returns c).Else-not-message_holds) c.count_all.result c.count_all.ensures
