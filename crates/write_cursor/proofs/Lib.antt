@@ -1,3 +1,1 @@
-mod WriterAtExit
-mod Again
 mod Rounds

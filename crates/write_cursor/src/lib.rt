@@ -1,6 +1,6 @@
 // Document 01, "Writing": "The writer is a record of the output and the next free byte." Each function over it takes it apart and calls the
-// covered one on the output and the place; each is proved by a walk of its MIR, by hand. `write_text` takes plain slices: whoever calls it
-// needs no walk.
+// one of `write_parts` on the output and the place. `write_text` takes plain slices. It keeps one writer throughout: through a function that
+// takes a writer and hands one back, a caller does not learn what its own output holds once the writer is gone.
 #![tactic(auto)]
 
 ghost use Rattle.std.specs.Prelude.{◌≡◌, true, ◌++◌, ◌+◌, ◌≤◌, length};
@@ -107,9 +107,12 @@ pub fn write_text(
     requires { ((headers_hold many headers.now ≡ true) × (shaped_all count contents.now ≡ true) × (end ≡ utf8_end body.now 0)) × (length (write (message_of many headers.now kind.now count contents.now body.now)) ≤ length out.old) }
     ensures { (result ≡ length (write (message_of many headers.now kind.now count contents.now body.now))) × (out.new ≡ pasted 0 (write (message_of many headers.now kind.now count contents.now body.now)) out.old) }
 {
-    let first = put_first(new(out));
-    let second = put_headers(first, headers, many);
-    let third = put_content_part(second, kind, contents, count);
-    let fourth = put_blank(third);
-    put_body(fourth, body, end)
+    let mut w = new(out);
+    let at = w.at;
+    let first = write_parts::put_first_at(&mut *w.out, at);
+    let second = write_parts::lines::put_header_lines(&mut *w.out, first, headers, many);
+    let third = write_parts::put_content_part_at(&mut *w.out, second, kind, contents, count);
+    let fourth = write_parts::put_blank_at(&mut *w.out, third);
+    w.at = fourth;
+    put_body(w, body, end)
 }
