@@ -1,0 +1,14 @@
+use Prim.Native.Nat.{◌-◌}
+use lib.ListN.{length}
+use Rattle.format.specs.Reading.{read_content_line}
+use Rattle.format.specs.Lending.{head_lent, lengths}
+use Rattle.sections.specs.Cuts.{line_end_for}
+use Rattle.read.proofs.LinesLoop.{SoFar}
+use Rattle.read.proofs.section_lines.read_contents.Given as goal
+
+abbrev pub invariant-loop-line : goal.invariant-loop-line
+invariant-loop-line l =
+    SoFar (read_content_line (lengths (head_lent l.initial.so_far l.initial.head))) (line_end_for l.crlf) l.section l.initial.so_far l.initial.head l.at l.so_far l.head
+
+abbrev pub decreases-loop-line : goal.decreases-loop-line
+decreases-loop-line l = length l.section - l.at
