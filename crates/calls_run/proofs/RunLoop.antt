@@ -2,7 +2,6 @@
 -- Assumes nothing.
 use mathlib.Core.Path.{◌≡◌, sym, subst}
 use mathlib.Core.List.{List, [], ◌++◌}
-use Rattle.format.specs.Bytes.{Bytes}
 use Rattle.format.specs.Calls.{Call}
 use Rattle.format.specs.Runs.{State, Run, done}
 use Rattle.calls_script.proofs.RunSteps.{run_on}
