@@ -13,9 +13,6 @@ words_are : (c : After-line-words) → c.line-words.result.now ≡ condition c.a
 unfolding lined conditions texts
 words_are c = c.line-words.ensures ∙ condition_line c.args.number
 
-pub line-words-requires : goal.line-words-requires
-line-words-requires c = tt
-
 pub put-requires : goal.put-requires
 put-requires c =
     omega (arith, ap length (words_are (goal.at.put-requires c).After-line-words), condition_short c.args.number, c.requires)

@@ -13,9 +13,6 @@ words_are : (c : After-line-words) → c.line-words.result.now ≡ reason c.args
 unfolding lined reasons texts
 words_are c = c.line-words.ensures ∙ reason_line c.args.clause
 
-pub line-words-requires : goal.line-words-requires
-line-words-requires c = tt
-
 pub put-requires : goal.put-requires
 put-requires c =
     omega (arith, ap length (words_are (goal.at.put-requires c).After-line-words), reason_short c.args.clause, c.requires)
