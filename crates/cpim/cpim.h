@@ -1,4 +1,4 @@
-/* CPIM messages (RFC 3862) in lent stores: the functions of target/staticlib/libcpim.a (made by `flock .rt-lock rt staticlib cpim`) and their records.
+/* CPIM messages (RFC 3862) in lent stores: the functions of crates/cpim/out/libcpim.a (made by a build of rust/cpim, or by `rt lib` in crates/cpim) and their records.
  *
  * A slice crosses as its place, which is never NULL, and its length, which may be 0. Any record, any bytes and any lengths are answered; nothing is allocated. What is lent to be
  * written must overlap nothing else that is lent to the same call.

@@ -12,6 +12,7 @@ use std::fs::{self, File, OpenOptions};
 use std::io::{self, ErrorKind};
 use std::path::{Path, PathBuf};
 use std::process::{exit, Command};
+use std::thread::available_parallelism;
 
 /// A library's bytes, and the files and folders that decide whether they are still the right ones.
 struct Library {
@@ -19,7 +20,7 @@ struct Library {
     watched: Vec<PathBuf>,
 }
 
-/// Links lib`name`.a of target/staticlib, or of the folder that CPIM_LIB_DIR names. Where that cannot be, one sentence says what to do, and nothing
+/// Links lib`name`.a of crates/`name`/out, or of the folder that CPIM_LIB_DIR names. Where that cannot be, one sentence says what to do, and nothing
 /// else: cargo shows all that a script said that fails.
 pub fn link(name: &str) {
     // The bytes whose digest was compared are the ones that are linked, from a folder that nobody else writes or removes.
@@ -66,12 +67,14 @@ fn library(name: &str, out: &Path) -> Result<Library, String> {
     Ok(library)
 }
 
-/// The library of target/staticlib. The lock is held before anything is compared, so whoever waited finds what the other has built.
+/// The library of crates/`name`/out. The lock is held before anything is compared, so whoever waited finds what the other has built.
 fn built_here(root: &Path, name: &str, boundary: &str, out: &Path) -> Result<Library, String> {
     let lock = lock(root);
     let sources = Sources::read(root, name)?;
     let toolchain = toolchain();
-    let (library, stamp) = files(&root.join("target/staticlib"), name);
+    let made = made_in(name);
+    let folder = root.join(&made);
+    let (library, stamp) = files(&folder, name);
     let watched = |bytes| Library { bytes, watched: [&sources.paths[..], &[library.clone(), stamp.clone()]].concat() };
     let stamp_of = |bytes: &[u8], toolchain: &str| Stamp {
         version: variable("CARGO_PKG_VERSION"),
@@ -95,7 +98,7 @@ fn built_here(root: &Path, name: &str, boundary: &str, out: &Path) -> Result<Lib
 
     let toolchain = toolchain.map_err(|why| {
         format!(
-            "{why}, and target/staticlib has no library with a stamp of these sources: install the Rattle toolchain, or {}",
+            "{why}, and {made} has no library with a stamp of these sources: install the Rattle toolchain, or {}",
             way_out(name, THESE)
         )
     })?;
@@ -108,13 +111,14 @@ fn built_here(root: &Path, name: &str, boundary: &str, out: &Path) -> Result<Lib
     };
     let lock = lock.map_err(cannot_write)?;
     // From here until the new stamp is written the library has none.
-    fs::create_dir_all(root.join("target/staticlib")).and_then(|()| fs::write(&stamp, "")).map_err(cannot_write)?;
-    // `rt check` proves on all processors, `rt staticlib` one crate after the other. Without names the former would prove everything.
-    let check = [&["check".to_string()], &sources.libraries[..]].concat();
-    let build = ["staticlib".to_string(), name.to_string()];
-    for words in [&check[..], &build].into_iter().filter(|words| words.len() > 1) {
-        rt(root, name, words, &lock, &out.join("rt.out"))?;
+    fs::create_dir_all(&folder).and_then(|()| fs::write(&stamp, "")).map_err(cannot_write)?;
+    // `rt all check` proves what it rests on side by side, `rt lib` one crate after the other. The library is for any x86-64 processor, where `rt`
+    // of itself would compile it for x86-64-v2.
+    let said = out.join("rt.out");
+    if !sources.libraries.is_empty() {
+        rt(root, name, &["all", "check", "--jobs", &side_by_side().to_string()], &lock, &said)?;
     }
+    rt(root, name, &["lib", "--cpu", "x86-64"], &lock, &said)?;
     if Sources::read(root, name)?.digest != sources.digest {
         return Err("the sources were changed while they were proved: build again".to_string());
     }
@@ -166,8 +170,14 @@ fn this_version() -> String {
 
 fn way_out(name: &str, of: &str) -> String {
     format!(
-        "set CPIM_LIB_DIR to a folder with the lib{name}.a and lib{name}.stamp that a build of {of} has left in target/staticlib on a machine with `rt`"
+        "set CPIM_LIB_DIR to a folder with the lib{name}.a and lib{name}.stamp that a build of {of} has left in {} on a machine with `rt`",
+        made_in(name)
     )
+}
+
+/// Where `rt` leaves a library, from the root.
+fn made_in(name: &str) -> String {
+    format!("crates/{name}/out")
 }
 
 /// Where a library and its stamp stand.
@@ -175,8 +185,8 @@ fn files(folder: &Path, name: &str) -> (PathBuf, PathBuf) {
     (folder.join(format!("lib{name}.a")), folder.join(format!("lib{name}.stamp")))
 }
 
-/// The lock that all hold who run `rt` in this repository (the Makefile by flock), because `rt` takes none. It is not in target/, which `rt ci`
-/// removes.
+/// The lock that all hold who run `rt` in this repository (the Makefile by flock): `rt` keeps others out of the crates where it works, but not from
+/// between two of its runs, and a library has to be the one that was compared, built and stamped. It is in no out/, which `rt ci` removes.
 fn lock(root: &Path) -> io::Result<File> {
     let path = root.join(".rt-lock");
     let file = File::open(&path).or_else(|_| OpenOptions::new().read(true).append(true).create(true).open(&path))?;
@@ -197,14 +207,24 @@ fn toolchain() -> Result<String, String> {
     }
 }
 
-/// Runs `rt` with what it says in a file: where crates are not proved that is pages. It and all that it starts hold the lock too, so that the lock
-/// outlives this script where that is ended first. `rt` proves in the background, where standard input is not handed on and Ctrl-C is ignored, hence
-/// the shell, which moves the lock to a descriptor that is.
-fn rt(root: &Path, name: &str, words: &[String], lock: &File, said: &Path) -> Result<(), String> {
+/// How many crates to prove at a time: one a processor, as many as the memory holds that is free, by 3 GB each.
+fn side_by_side() -> usize {
+    let said = fs::read_to_string("/proc/meminfo").unwrap_or_default();
+    let free =
+        said.lines().find_map(|line| line.strip_prefix("MemAvailable:")?.trim().strip_suffix(" kB")?.parse().ok());
+    let by_memory = free.map_or(1, |free: usize| free / 3_000_000);
+    by_memory.clamp(1, available_parallelism().map_or(1, |processors| processors.get()))
+}
+
+/// Runs `rt` in the library's crate with what it says in a file: where crates are not proved that is pages. It holds the lock too, so that the lock
+/// outlives this script where that is ended first. What stands at standard input is not handed on to all that `rt` starts, hence the shell, which moves
+/// the lock to a descriptor that `rt` keeps.
+fn rt(root: &Path, name: &str, words: &[&str], lock: &File, said: &Path) -> Result<(), String> {
+    let folder = root.join("crates").join(name);
     let run = || {
         let file = File::create(said)?;
         let mut rt = Command::new("/bin/sh");
-        rt.args(["-c", "exec rt \"$@\" 9<&0 </dev/null", "sh"]).args(words).current_dir(root);
+        rt.args(["-c", "exec rt \"$@\" 9<&0 </dev/null", "sh"]).args(words).current_dir(&folder);
         rt.stdin(lock.try_clone()?).stdout(file.try_clone()?).stderr(file).status()
     };
     let status = run().map_err(|e| format!("`rt` cannot be run ({e})"))?;
@@ -217,10 +237,11 @@ fn rt(root: &Path, name: &str, words: &[String], lock: &File, said: &Path) -> Re
     if let Some(126 | 127) = status.code() {
         return Err(format!("`rt` cannot be run ({})", text.lines().last().unwrap_or_default()));
     }
-    let failed = text.lines().find_map(|line| line.strip_prefix("rt: FAILED: ")?.split(' ').next()).unwrap_or(name);
+    let failed = text.lines().find_map(|line| line.split_once(": failed (")).map_or(name, |(failed, _)| failed);
     Err(format!(
-        "`rt` does not prove the library ({status}, at {failed}): run `flock .rt-lock rt staticlib {name}` in {}, or read target/log/{failed}.say there",
-        root.display()
+        "`rt` does not prove the library ({status}, at {failed}): run `flock ../../.rt-lock rt lib` in {}, or read {}",
+        folder.display(),
+        said.display()
     ))
 }
 

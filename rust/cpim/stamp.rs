@@ -27,11 +27,11 @@ impl Sources {
         let mut paths = vec![list];
         let mut text = Vec::new();
         let crates = rests_on(&lines, name);
-        let named = crates.get(name).into_iter().flatten();
+        let named = crates.get(name).into_iter().flat_map(|line| &line.libraries);
         let libraries =
             named.filter(|library| crates.contains_key(*library)).map(|library| library.to_string()).collect();
-        for (name, libraries) in &crates {
-            text.extend(format!("{name}: {}\n", libraries.join(" ")).bytes());
+        for (name, Line { kind, libraries }) in &crates {
+            text.extend(format!("{}: {}\n", [&[*name], &kind[..]].concat().join(" "), libraries.join(" ")).bytes());
             for part in ["src", "specs", "proofs"] {
                 let folder = root.join("crates").join(name).join(part);
                 if folder.is_dir() {
@@ -57,19 +57,32 @@ pub fn boundary(package: &Path) -> Result<(String, Vec<PathBuf>), String> {
     Ok((sha256(&text), paths))
 }
 
-/// The crates that a crate rests on, itself among them, each with the libraries that it names. The toolchain's own have no line.
-fn rests_on<'a>(list: &'a str, name: &'a str) -> BTreeMap<&'a str, Vec<&'a str>> {
-    let lines: BTreeMap<&str, Vec<&str>> = list
+/// What crates.txt says of a crate, behind its name: `staticlib` and the like, and the libraries that it names.
+#[derive(Clone)]
+struct Line<'a> {
+    kind: Vec<&'a str>,
+    libraries: Vec<&'a str>,
+}
+
+/// The crates that a crate rests on, itself among them. The toolchain's own have no line.
+fn rests_on<'a>(list: &'a str, name: &'a str) -> BTreeMap<&'a str, Line<'a>> {
+    let lines: BTreeMap<&str, Line> = list
         .lines()
-        .filter_map(|line| line.split('#').next()?.split_once(':'))
-        .map(|(name, libraries)| (name.trim(), libraries.split_whitespace().collect()))
+        .filter_map(|line| {
+            let line = line.split('#').next()?;
+            let (head, libraries) = line.split_once(':').unwrap_or((line, ""));
+            let mut head = head.split_whitespace();
+            let name = head.next()?;
+            let libraries = libraries.split([' ', '\t', ',']).filter(|library| !library.is_empty()).collect();
+            Some((name, Line { kind: head.collect(), libraries }))
+        })
         .collect();
     let mut found = BTreeMap::new();
     let mut open = vec![name];
     while let Some(name) = open.pop() {
-        if let Some(libraries) = lines.get(name) {
-            if found.insert(name, libraries.clone()).is_none() {
-                open.extend(libraries);
+        if let Some(line) = lines.get(name) {
+            if found.insert(name, line.clone()).is_none() {
+                open.extend(&line.libraries);
             }
         }
     }

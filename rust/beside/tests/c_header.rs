@@ -91,7 +91,9 @@ fn records() {
     .map(file);
     let mut records = 0;
     for source in &sources {
-        for record in source.split("#[repr(C)]\npub struct ").skip(1) {
+        for record in source.split("#[repr(C)]\n").skip(1) {
+            let (attributes, record) = record.split_once("pub struct ").unwrap();
+            assert!(attributes.lines().all(|line| line.starts_with("#[")), "a record that is not public");
             let (name, rest) = record.split_once(" {").unwrap();
             let fields = rest.split_once('}').unwrap().0.split(',').map(str::trim).filter(|f| !f.is_empty());
             let fields: Vec<String> = fields

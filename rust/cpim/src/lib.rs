@@ -29,8 +29,8 @@
 //! # Building
 //!
 //! The first `cargo build` proves the library that this crate links, some minutes in which cargo prints nothing. To see each crate as it is proved, run
-//! `flock .rt-lock rt staticlib cpim` in the repository's root first, after which cargo takes half a minute. Later builds prove again only what was
-//! changed: they compare the contents of the sources with a stamp beside the library, in target/staticlib. Both can be kept and brought back.
+//! `flock ../../.rt-lock rt all check` in crates/cpim first, after which cargo takes half a minute. Later builds prove again only what was
+//! changed: they compare the contents of the sources with a stamp beside the library, in crates/cpim/out. Both can be kept and brought back.
 //!
 //! Without the Rattle toolchain (`rt`), set the variable `CPIM_LIB_DIR` to a folder with `libcpim.a` and `libcpim.stamp` from a machine that has it. They
 //! have to be of the same sources, or, where this package stands without the repository (by `cargo vendor` or `cargo package`), of its version and
