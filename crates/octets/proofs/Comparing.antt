@@ -35,7 +35,7 @@ begins_short [] t h = absurd (omega arith)
 begins_short (a ∷ p) [] h = refl
 begins_short (a ∷ p) (b ∷ t) h = rw (begins_short p t (omega arith)) (and-false (eqb a b))
 
--- ---- `same`, `same_letters`
+-- ---- same, sameLetters
 
 -- of texts of one length
 pub same_begins : (a b : Bytes) → length a ≡ length b → same a b ≡ begins a b

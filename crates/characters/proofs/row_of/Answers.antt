@@ -1,5 +1,5 @@
 -- `characters::row_of` meets its contract. The rows passed do not hold the byte, so the row is one of those left (the invariant);
--- a hit is `row_hit`, a miss `row_miss`.
+-- a hit is row-hit, a miss row-miss.
 -- Assumes nothing.
 use mathlib.Core.Path.{◌≡◌, sym, ◌∙◌}
 use native.Mathlib.Omega.{arith}

@@ -1,5 +1,5 @@
--- `characters::subpart_len_in` meets its contract. The row that the first byte picks gives the length: `subpart_row`, or
--- `subpart_none` where it picks none.
+-- `characters::subpart_len_in` meets its contract. The row that the first byte picks gives the length: subpart-row, or
+-- subpart-none where it picks none.
 -- Assumes nothing.
 use native.Mathlib.Omega.{arith}
 use lib.ListN.{get_or}

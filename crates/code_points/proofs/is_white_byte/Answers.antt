@@ -1,4 +1,4 @@
--- `code_points::is_white_byte` meets its contract. The answers of `white_byte`, a test that computes over all ASCII bytes, by
+-- `code_points::is_white_byte` meets its contract. The answers of white-byte, a test that computes over all ASCII bytes, by
 -- ranges.
 -- Assumes nothing.
 use native.Mathlib.Omega.{arith}

@@ -1,5 +1,5 @@
 -- `utf8::past_chars` meets its contract. The invariant: the characters from the place reached on end where those from the first
--- place on do; a character more is `chars_more`, and none where UTF-8 ends is `chars_ill`.
+-- place on do; a character more is chars-more, and none where UTF-8 ends is chars-ill.
 -- Assumes nothing.
 use mathlib.Core.Path.{refl, sym, ◌∙◌}
 use native.Mathlib.Omega.{arith}

@@ -1,5 +1,5 @@
 -- `utf8::utf8_end` meets its contract. The invariant: UTF-8 ends, from the place reached on, where it ends from the first place
--- on. A turn's laws are those of CharsEnd.antt.
+-- on. A turn's laws are those of Parts.antt.
 -- Assumes nothing.
 use mathlib.Core.Path.{refl, sym, ◌∙◌}
 use native.Mathlib.Omega.{arith}

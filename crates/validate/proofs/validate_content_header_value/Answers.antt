@@ -1,4 +1,5 @@
 -- `validate::validate_content_header_value` meets its contract: the length decides first, as for every value. Assumes nothing.
+-- a first check that refuses
 use Prim.Native.Nat.{ℕ}
 use mathlib.Core.Path.{◌≡◌, refl, sym, ap, ◌∙◌}
 use mathlib.Core.Bool.{Bool, true, false, not}
@@ -11,7 +12,6 @@ use Rattle.format.specs.Refusals.{value_too_long, content_control, accepted, ref
 use Rattle.format.specs.Validators.{header_value, content_value}
 use Rattle.validate.proofs.validate_content_header_value.Goals as goal
 
--- a first check that refuses
 refuses : (a k : Check) → ((numbers a).number ≡ 0 → ⊥) → numbers a ≡ numbers (◌>>◌ a k)
 unfolding numbers ◌>>◌
 refuses (accepted u) k h = absurd (h refl)

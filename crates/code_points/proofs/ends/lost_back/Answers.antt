@@ -1,5 +1,6 @@
 -- `code_points::ends::lost_back` meets its contract. Such a character has at most three bytes, so suffixes decide; an ASCII byte decides
 -- alone. Assumes nothing.
+-- what the tests of two bytes and of three say
 use Prim.Native.Nat.{◌-◌}
 use mathlib.Core.Path.{◌≡◌, sym, ap, ◌∙◌}
 use native.Mathlib.Omega.{arith}
@@ -21,7 +22,6 @@ returns-then-b-lt128 c = back_ascii c.args.s.now (omega arith) (omega arith) c.i
 pub returns-then-n-lt2 : goal.returns-then-n-lt2
 returns-then-n-lt2 c = back_none c.args.s.now (omega arith) (omega arith) (λ l. absurd (omega arith)) (λ l. absurd (omega arith))
 
--- what the tests of two bytes and of three say
 pub returns-then-is_lost : goal.returns-then-is_lost
 returns-then-is_lost c =
     let two-tested : c.is_lost.result ≡ is_lost (drop (length c.args.s.now - 2) c.args.s.now) = let u = c.args.s.now in

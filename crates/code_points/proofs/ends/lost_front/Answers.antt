@@ -1,5 +1,6 @@
 -- `code_points::ends::lost_front` meets its contract. Such a character has at most three bytes, so prefixes decide; an ASCII byte decides
 -- alone. Assumes nothing.
+-- what the test of two bytes says where it failed
 use mathlib.Core.Path.{◌≡◌, sym, ◌∙◌}
 use mathlib.Core.Bool.{false}
 use native.Mathlib.Omega.{arith}
@@ -27,7 +28,6 @@ slice_bounds-is_lost-end c = sym (length-take-le 2 c.args.s.now (omega arith))
 pub returns-then-is_lost : goal.returns-then-is_lost
 returns-then-is_lost c = front_is c.args.s.now 2 (omega arith) (sym c.is_lost.ensures ∙ c.if-is_lost.true)
 
--- what the test of two bytes says where it failed
 pub returns-then-s-lt3 : goal.returns-then-s-lt3
 returns-then-s-lt3 c =
     let two-not : is_lost (take 2 c.args.s.now) ≡ false = sym c.is_lost.ensures ∙ c.if-is_lost.false in

@@ -1,6 +1,7 @@
 -- `code_points::trimming::white_back` meets its contract. White space has at most three bytes and begins with a byte that leads, so
 -- three suffixes decide; an ASCII byte decides alone.
 -- Assumes nothing.
+-- the text, and what each test that failed says of its end
 use mathlib.Core.Path.{◌≡◌, sym, ap, ◌∙◌}
 use mathlib.Core.Bool.{false}
 use Prim.Native.Nat.{◌-◌}
@@ -25,7 +26,6 @@ returns-then-b-lt128 c =
     let u = text in
     no_back u (back_low u (omega arith) (omega arith) (sym c.is_white_byte.ensures ∙ c.if-is_white_byte.false))
 
--- what each test that failed says of the text's end
 pub returns-then-n-lt2 : goal.returns-then-n-lt2
 returns-then-n-lt2 c =
     let text = c.args.u.now in

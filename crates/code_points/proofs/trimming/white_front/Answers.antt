@@ -1,6 +1,7 @@
 -- `code_points::trimming::white_front` meets its contract. White space has at most three bytes, so three prefixes decide; an ASCII
 -- byte decides alone.
 -- Assumes nothing.
+-- the text, and what each test that failed says of its front
 use mathlib.Core.Path.{◌≡◌, sym, ap, ◌∙◌}
 use mathlib.Core.Bool.{false}
 use native.Mathlib.Omega.{arith}
@@ -24,7 +25,6 @@ returns-then-b-lt128 c =
     let u = text in
     no_front u (front_low u (omega arith) (omega arith) (sym c.is_white_byte.ensures ∙ c.if-is_white_byte.false))
 
--- what each test that failed says of the text's front
 pub returns-then-u-lt2 : goal.returns-then-u-lt2
 returns-then-u-lt2 c =
     let text = c.args.u.now in

@@ -1,4 +1,5 @@
 -- `sections::search::find_in_16` meets its contract: without a pair the pattern stands nowhere in the block (`block_none`), and where it is ruled out neither. Assumes nothing.
+-- the block has 16 bytes and more
 use mathlib.Core.Path.{◌≡◌, sym, ◌∙◌}
 use native.Mathlib.Omega.{arith}
 use lib.ListN.{length, take}
@@ -7,7 +8,6 @@ use borrow.Author.Rules.{rules}
 use Rattle.sections.proofs.SearchBlocks.{block_none}
 use Rattle.sections.proofs.search.find_in_16.Goals as goal
 
--- the block has 16 bytes and more
 pub slice_bounds-near_in-end : goal.slice_bounds-near_in-end
 slice_bounds-near_in-end c =
     let front : length (take 16 c.args.block.now) ≡ 16 = length-take-le 16 c.args.block.now (omega arith) in

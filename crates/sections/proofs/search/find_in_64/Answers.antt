@@ -1,4 +1,5 @@
 -- `sections::search::find_in_64` meets its contract: without a pair the pattern stands nowhere in the block (`block_none`). Assumes nothing.
+-- the block has 64 bytes and more
 use mathlib.Core.Path.{◌≡◌, sym, ◌∙◌}
 use native.Mathlib.Omega.{arith}
 use lib.ListN.{length, take}
@@ -7,7 +8,6 @@ use borrow.Author.Rules.{rules}
 use Rattle.sections.proofs.SearchBlocks.{block_none}
 use Rattle.sections.proofs.search.find_in_64.Goals as goal
 
--- the block has 64 bytes and more
 pub slice_bounds-near_in-end : goal.slice_bounds-near_in-end
 slice_bounds-near_in-end c =
     let front : length (take 64 c.args.block.now) ≡ 64 = length-take-le 64 c.args.block.now (omega arith) in

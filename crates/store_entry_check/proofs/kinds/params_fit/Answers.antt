@@ -1,4 +1,4 @@
--- `store_entry_check::kinds::params_fit` meets its contract. Each arm is what its kind asks. Assumes nothing.
+-- `store_entry_check::kinds::params_fit_lem` meets its contract. Each arm is what its kind asks. Assumes nothing.
 use mathlib.Core.Path.{refl, ap}
 use mathlib.Core.Bool.{Bool, ◌&&◌}
 use lib.Dec.{eqb}

@@ -1,4 +1,4 @@
--- `unescape::digits::digit_value` meets its contract. Each byte by the range that it is in. Assumes nothing.
+-- `unescape::digits::digit_value_lem` meets its contract. Each byte by the range that it is in. Assumes nothing.
 use mathlib.Core.Path.{sym, ap}
 use native.Mathlib.Omega.{arith}
 use Rattle.format.specs.Characters.{◌to◌}

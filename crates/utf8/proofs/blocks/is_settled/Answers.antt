@@ -1,4 +1,4 @@
--- `utf8::blocks::is_settled` meets its contract. The three tests are those of `is_settled`.
+-- `utf8::blocks::is_settled` meets its contract. The three tests are those of isSettled.
 -- Assumes nothing.
 use mathlib.Core.Path.{sym}
 use native.Mathlib.Omega.{arith}

@@ -1,4 +1,4 @@
--- `utf8::blocks::past_sound` meets its contract. Each answer is a case of `sound_end`.
+-- `utf8::blocks::past_sound` meets its contract. Each answer is a case of soundEnd.
 -- Assumes nothing.
 use mathlib.Core.Path.{sym}
 use Prim.Native.Nat.{◌+◌, ◌-◌}

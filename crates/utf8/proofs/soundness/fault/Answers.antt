@@ -1,4 +1,4 @@
--- `utf8::soundness::fault` meets its contract. Each test that fails is a law of `is_sound`; the last answer is given only where every test
+-- `utf8::soundness::fault` meets its contract. Each test that fails is a law of isSound; the last answer is given only where every test
 -- has passed.
 -- Assumes nothing.
 use mathlib.Core.Path.{◌≡◌, sym, ap, ◌∙◌}

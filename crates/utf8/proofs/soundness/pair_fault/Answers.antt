@@ -1,4 +1,4 @@
--- `utf8::soundness::pair_fault` meets its contract. Each test that fails is a law of `is_pair`; the last answer is given only where every
+-- `utf8::soundness::pair_fault` meets its contract. Each test that fails is a law of isPair; the last answer is given only where every
 -- test has passed.
 -- Assumes nothing.
 use mathlib.Core.Path.{◌≡◌, sym, ap, ◌∙◌}
