@@ -1,4 +1,4 @@
--- `roundtrip::comes_back` meets its contract: no clause fails exactly where the message held reads back. Assumes nothing.
+-- `roundtrip::comes_back_lem` meets its contract: no clause fails exactly where the message held reads back. Assumes nothing.
 use Rattle.format.specs.Lending.{both_lent}
 use Rattle.roundtrip.proofs.Lossless.{source_says}
 use Rattle.roundtrip.proofs.comes_back.Goals as goal
