@@ -29,7 +29,7 @@
 //! # Building
 //!
 //! The first `cargo build` proves the library that this crate links, some minutes in which cargo prints nothing. To see each crate as it is proved, run
-//! `flock ../../.rt-lock rt all check` in crates/cpim first, after which cargo takes half a minute. Later builds prove again only what was
+//! `make library` in the repository's root first, after which cargo takes half a minute. Later builds prove again only what was
 //! changed: they compare the contents of the sources with a stamp beside the library, in crates/cpim/out. Both can be kept and brought back.
 //!
 //! Without the Rattle toolchain (`rt`), set the variable `CPIM_LIB_DIR` to a folder with `libcpim.a` and `libcpim.stamp` from a machine that has it. They
