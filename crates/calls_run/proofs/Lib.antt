@@ -1,3 +1,2 @@
 pub mod RunLoop
-pub mod Numbers
 pub mod CallRuns

@@ -2,6 +2,7 @@
 use Prim.Native.Nat.{ℕ, ◌+◌, ◌-◌, ◌*◌, ◌≤◌, ◌<◌}
 use mathlib.Core.Path.{◌≡◌, refl, sym, ap, ◌∙◌}
 use mathlib.Core.Bool.{Bool, true, false, ◌&&◌}
+use mathlib.Core.Option.{none, some}
 use native.Mathlib.Nat.{add-zero}
 use native.Mathlib.Omega.{arith}
 use lib.ListN.{length, take, drop, get_or, length-drop}
@@ -18,25 +19,25 @@ pub false_right : (a b : Bool) → a ≡ true → b ≡ false → (a && b) ≡ f
 false_right a b h k = rw (h, k) refl
 
 -- the place behind what stands whole, or not
-pub end_some : (b : Bool) (n : ℕ) → b ≡ true → n ≡ end_of b n
+pub end_some : (b : Bool) (n : ℕ) → b ≡ true → some n ≡ end_of b n
 unfolding end_of
 end_some b n h = rw h refl
 
-pub end_none : (b : Bool) (n : ℕ) → b ≡ false → 0 ≡ end_of b n
+pub end_none : (b : Bool) (n : ℕ) → b ≡ false → none ≡ end_of b n
 unfolding end_of
 end_none b n h = rw h refl
 
--- a place other than 0 is behind what stands whole
-pub some_end : (b : Bool) (n r : ℕ) → r ≡ end_of b n → (r ≡ 0 → ⊥) → (b ≡ true) × (r ≡ n)
+-- a place is behind what stands whole
+pub some_end : (b : Bool) (n r : ℕ) → some r ≡ end_of b n → (b ≡ true) × (r ≡ n)
 unfolding end_of
-some_end true n r e f = (refl, e)
-some_end false n r e f = absurd (f e)
+some_end true n r e = (refl, cc)
+some_end false n r e = absurd (cc)
 
--- and 0 is behind nothing
-pub none_end : (b : Bool) (n r : ℕ) → 0 < n → r ≡ end_of b n → r ≡ 0 → b ≡ false
+-- and none is behind nothing
+pub none_end : (b : Bool) (n : ℕ) → none ≡ end_of b n → b ≡ false
 unfolding end_of
-none_end true n r p e z = absurd (omega arith)
-none_end false n r p e z = refl
+none_end true n e = absurd (cc)
+none_end false n e = refl
 
 module _ (s : Bytes) (at : ℕ) where
   -- the bytes of a number
@@ -54,10 +55,6 @@ module _ (s : Bytes) (at : ℕ) where
   unfolding argument_size
   size_within h = whole_within h
 
-  pub size_positive : 0 < at + argument_size (drop at s)
-  unfolding argument_size
-  size_positive = omega arith
-
   -- its bytes, as a part of the script
   pub argument_part : (r : ℕ) → r ≡ number_in (drop at s) → take (at + 4 + r - (at + 4)) (drop (at + 4) s) ≡ argument (drop at s)
   unfolding argument
@@ -70,22 +67,22 @@ module _ (s : Bytes) (at : ℕ) where
   behind_is = drop-drop (argument_size (drop at s)) at s
 
   -- where it ends
-  pub short_end : length s - at < 4 → 0 ≡ end_of (whole (drop at s)) (at + argument_size (drop at s))
+  pub short_end : length s - at < 4 → none ≡ end_of (whole (drop at s)) (at + argument_size (drop at s))
   unfolding whole
   short_end h = end_none _ _ (false_left _ _ (lt-leb 4 (length (drop at s)) (rw (length-drop at s) h)))
 
   module _ (r : ℕ) (e : r ≡ number_in (drop at s)) (first : at + 4 ≤ length s) where
-    pub cut_end : length s - (at + 4) < r → 0 ≡ end_of (whole (drop at s)) (at + argument_size (drop at s))
+    pub cut_end : length s - (at + 4) < r → none ≡ end_of (whole (drop at s)) (at + argument_size (drop at s))
     unfolding whole
     cut_end h =
         end_none _ _
         (false_right _ _ (le-leb 4 (length (drop at s)) (omega (arith, length-drop at s)))
         (lt-leb (number_in (drop at s)) (length (drop at s) - 4) (omega (arith, length-drop at s))))
 
-    pub whole_end_lem : r ≤ length s - (at + 4) → at + 4 + r ≡ end_of (whole (drop at s)) (at + argument_size (drop at s))
+    pub whole_end_lem : r ≤ length s - (at + 4) → some (at + 4 + r) ≡ end_of (whole (drop at s)) (at + argument_size (drop at s))
     unfolding whole argument_size
     whole_end_lem h =
         let n : at + 4 + r ≡ at + (4 + number_in (drop at s)) = omega arith in
-        n
+        ap (λ (k : ℕ). some k) n
         ∙ end_some _ _
         (simp tests (omega (arith, length-drop at s)))

@@ -5,6 +5,7 @@ use mathlib.Core.Path.{◌≡◌, refl, sym, ap, ◌∙◌}
 use mathlib.Core.Bool.{true, false}
 use mathlib.Core.List.{[], ◌∷◌, ◌++◌}
 use mathlib.Core.Logic.{⊎_elim}
+use mathlib.Core.Option.{none, some}
 use native.Mathlib.Numerals.{add-one}
 use native.Mathlib.Omega.{arith}
 use lib.ListN.{length, drop, get_or, length-drop, drop_of_length-le}
@@ -45,34 +46,34 @@ size_fits header t h =
     omega (arith, size_within t (argument_size t + 12) (rw (sym e) w), ap argument_size e)
 size_fits unknown t h = omega arith
 
--- A place of a script, and the place r that stands for the end of the call there.
-module _ (s : Bytes) (at r : ℕ) (e : r ≡ end_of (complete (form_of (get_or s at 0)) (drop (at + 1) s)) (at + 1 + size_of (form_of (get_or s at 0)) (drop (at + 1) s))) where
+-- A place of a script.
+module _ (s : Bytes) (at : ℕ) where
   front : at < length s → calls_in (drop at s) ≡ calls_in (get_or s at 0 ∷ drop (at + 1) s)
   front h = ap calls_in (drop-cons s at 0 h ∙ ap (λ (n : ℕ). get_or s at 0 ∷ drop n s) (sym (add-one at)))
 
   -- no whole call stands there
-  pub calls_stop : r ≡ 0 → calls_in (drop at s) ≡ []
-  calls_stop z = ⊎_elim cut over (below at (length s))
+  pub calls_stop : none ≡ end_of (complete (form_of (get_or s at 0)) (drop (at + 1) s)) (at + 1 + size_of (form_of (get_or s at 0)) (drop (at + 1) s)) → calls_in (drop at s) ≡ []
+  calls_stop e = ⊎_elim cut over (below at (length s))
     where
       cut : at < length s → calls_in (drop at s) ≡ []
-      cut h = front h ∙ calls_cut (get_or s at 0) (drop (at + 1) s) (none_end _ _ r (omega arith) e z)
+      cut h = front h ∙ calls_cut (get_or s at 0) (drop (at + 1) s) (none_end _ _ e)
 
       over : length s ≤ at → calls_in (drop at s) ≡ []
       over h = ap calls_in (drop_of_length-le s {i = at} h) ∙ calls_none
 
-  -- or one does, and the others stand behind it
-  pub record Next : Type 0 where
+  -- or one does, up to the place r, and the others stand behind it
+  pub record Next (r : ℕ) : Type 0 where
     pub within : at < length s
     pub whole : complete (form_of (get_or s at 0)) (drop (at + 1) s) ≡ true
     pub place : r ≤ length s
     pub later : at < r
     pub calls : calls_in (drop at s) ≡ called (form_of (get_or s at 0)) (drop (at + 1) s) ++ calls_in (drop r s)
 
-  pub calls_next : (r ≡ 0 → ⊥) → Next
-  calls_next z =
+  pub calls_next : (r : ℕ) → some r ≡ end_of (complete (form_of (get_or s at 0)) (drop (at + 1) s)) (at + 1 + size_of (form_of (get_or s at 0)) (drop (at + 1) s)) → Next r
+  calls_next r e =
       let f = form_of (get_or s at 0) in
       let t = drop (at + 1) s in
-      let w = some_end (complete f t) (at + 1 + size_of f t) r e z in
+      let w = some_end (complete f t) (at + 1 + size_of f t) r e in
       let inside : at < length s = ⊎_elim (λ h. h) (λ h. clash w.0 (ap (complete f) (drop_of_length-le s {i = at + 1} (omega arith)) ∙ nothing_whole f)) (below at (length s)) in
       record {
         within = inside;

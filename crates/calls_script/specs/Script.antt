@@ -12,6 +12,13 @@ use Rattle.format.specs.declared.CpimMessage.{CpimMessage}
 use Rattle.format.specs.declared.CpimHeader.{CpimHeader}
 use Rattle.store_check.specs.Holding.{header_holds}
 use Rattle.store_check.specs.Decoding.{header_in}
+use Rattle.std.specs.Prelude as std
+use Rattle.calls_script.specs.declared.TextCall.{TextCall}
+use Rattle.calls_script.specs.declared.TextCall.TheVariants as text_call
+use Rattle.calls_script.specs.declared.PairCall.{PairCall}
+use Rattle.calls_script.specs.declared.PairCall.TheVariants as pair_call
+use Rattle.calls_script.specs.declared.Form as code
+use Rattle.calls_script.specs.declared.Form.TheVariants as code_form
 
 -- a record and both stores between two calls
 abbrev pub state : CpimMessage → Bytes → Bytes → State
@@ -121,13 +128,31 @@ calls_from (suc k) (n ∷ t) = calls_from k t
 abbrev pub calls_in : Bytes → List Call
 calls_in s = calls_from 0 s
 
--- The kind of a form, as a number: 1 and 2 for so many arguments, 3 for `add_header_obj`, 0 for no call.
-unfoldable pub kind_of : Form → ℕ
-kind_of (one c) = 1
-kind_of (two c) = 2
-kind_of header = 3
-kind_of unknown = 0
+-- the code's calls of one text, and of two
+abbrev pub text_meant : TextCall → Bytes → Call
+text_meant text_call.SetBody = set_body
+text_meant text_call.WithFrom = with_from
+text_meant text_call.WithTo = with_to
+text_meant text_call.WithDatetime = with_datetime
+text_meant text_call.WithSubject = with_subject
+text_meant text_call.WithCc = with_cc
+text_meant text_call.WithRequire = with_require
 
--- the place behind what stands whole, 0 where it does not
-unfoldable pub end_of : Bool → ℕ → ℕ
-end_of b n = if b then n else 0
+abbrev pub pair_meant : PairCall → Bytes → Bytes → Call
+pair_meant pair_call.SetHeader = set_header
+pair_meant pair_call.AddHeader = add_header
+pair_meant pair_call.AddContentHeader = add_content_header
+pair_meant pair_call.WithSubjectLang = with_subject_lang
+pair_meant pair_call.WithNs = with_ns
+pair_meant pair_call.WithContentHeader = with_content_header
+
+-- its forms; none is that of a number that is no call's
+abbrev pub meant : std.Option code.Form → Form
+meant std.None = unknown
+meant (std.Some (code_form.Text c)) = one (text_meant c)
+meant (std.Some (code_form.Pair c)) = two (pair_meant c)
+meant (std.Some code_form.AddHeaderObj) = header
+
+-- the place behind what stands whole, none where it does not
+unfoldable pub end_of : Bool → ℕ → Option ℕ
+end_of b n = if b then some n else none

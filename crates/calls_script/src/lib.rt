@@ -3,10 +3,39 @@
 #![tactic(auto)]
 
 ghost use Rattle.std.specs.Prelude.{◌≡◌, true, ◌+◌, ◌*◌, ◌≤◌, ◌<◌, length, drop, get_or};
-ghost use Rattle.calls_script.specs.Script.{number_in, whole, argument, argument_size, both_whole, both_size, header_whole, header_size, form_of, complete, size_of, kind_of, end_of};
+ghost use Rattle.format.specs.Told.{given};
+ghost use Rattle.calls_script.specs.Script.{number_in, whole, argument, argument_size, both_whole, both_size, header_whole, header_size, form_of, meant, complete, size_of, end_of};
 
-// The kinds of the calls by their numbers: 1 and 2 for so many arguments, 3 for `add_header_obj`.
-const KINDS: [u8; 14] = [1, 2, 2, 3, 2, 1, 1, 1, 1, 2, 1, 2, 1, 2];
+// The calls of one text.
+#[derive(Clone, Copy)]
+pub enum TextCall {
+    SetBody,
+    WithFrom,
+    WithTo,
+    WithDatetime,
+    WithSubject,
+    WithCc,
+    WithRequire,
+}
+
+// The calls of two texts.
+#[derive(Clone, Copy)]
+pub enum PairCall {
+    SetHeader,
+    AddHeader,
+    AddContentHeader,
+    WithSubjectLang,
+    WithNs,
+    WithContentHeader,
+}
+
+// A call without its arguments: what follows its number.
+#[derive(Clone, Copy)]
+pub enum Form {
+    Text(TextCall),
+    Pair(PairCall),
+    AddHeaderObj,
+}
 
 // A number of four bytes, the low one first.
 fn four_bytes(a: u8, b: u8, c: u8, d: u8) -> usize
@@ -23,6 +52,14 @@ pub fn number_at(s: &[u8], at: usize) -> usize
     four_bytes(s[at], s[at + 1], s[at + 2], s[at + 3])
 }
 
+// The place behind the argument at a place, where it stands whole.
+pub fn behind(s: &[u8], at: usize) -> usize
+    requires { whole (drop at s.now) ≡ true }
+    ensures { result ≡ at + argument_size (drop at s.now) }
+{
+    at + 4 + number_at(s, at)
+}
+
 // The argument at a place, where it stands whole.
 pub fn argument_at<'a>(s: &'a [u8], at: usize) -> &'a [u8]
     requires { whole (drop at s.now) ≡ true }
@@ -33,78 +70,78 @@ pub fn argument_at<'a>(s: &'a [u8], at: usize) -> &'a [u8]
     &s[from..to]
 }
 
-// The place behind the argument at a place; 0 where it is cut off.
-pub fn argument_end(s: &[u8], at: usize) -> usize
+// The place behind the argument at a place; None where it is cut off.
+pub fn argument_end(s: &[u8], at: usize) -> Option<usize>
     requires { at ≤ length s.now }
-    ensures { result ≡ end_of (whole (drop at s.now)) (at + argument_size (drop at s.now)) }
+    ensures { given result ≡ end_of (whole (drop at s.now)) (at + argument_size (drop at s.now)) }
 {
     if s.len() - at < 4 {
-        return 0;
+        return None;
     }
     let from = at + 4;
     let n = number_at(s, at);
     if s.len() - from < n {
-        return 0;
+        return None;
     }
-    from + n
+    Some(from + n)
 }
 
 // The place behind two arguments.
-fn two_end(s: &[u8], at: usize) -> usize
+fn two_end(s: &[u8], at: usize) -> Option<usize>
     requires { at ≤ length s.now }
-    ensures { result ≡ end_of (both_whole (drop at s.now)) (at + both_size (drop at s.now)) }
+    ensures { given result ≡ end_of (both_whole (drop at s.now)) (at + both_size (drop at s.now)) }
 {
-    let next = argument_end(s, at);
-    if next == 0 {
-        return 0;
-    }
+    let next = argument_end(s, at)?;
     argument_end(s, next)
 }
 
 // The place behind a name, the record of a header and its store.
-fn header_end(s: &[u8], at: usize) -> usize
+fn header_end(s: &[u8], at: usize) -> Option<usize>
     requires { at ≤ length s.now }
-    ensures { result ≡ end_of (header_whole (drop at s.now)) (at + header_size (drop at s.now)) }
+    ensures { given result ≡ end_of (header_whole (drop at s.now)) (at + header_size (drop at s.now)) }
 {
-    let next = argument_end(s, at);
-    if next == 0 {
-        return 0;
-    }
+    let next = argument_end(s, at)?;
     if s.len() - next < 12 {
-        return 0;
+        return None;
     }
     argument_end(s, next + 12)
 }
 
-// The kind of a call; 0 for a number that is no call's.
-pub fn kind_of(number: u8) -> u8
-    ensures { result ≡ kind_of (form_of number) }
+// The form of a call by its number; None for a number that is no call's.
+pub fn form_of(number: u8) -> Option<Form>
+    ensures { meant result ≡ form_of number }
 {
-    if 13 < number {
-        return 0;
+    match number {
+        0 => Some(Form::Text(TextCall::SetBody)),
+        1 => Some(Form::Pair(PairCall::SetHeader)),
+        2 => Some(Form::Pair(PairCall::AddHeader)),
+        3 => Some(Form::AddHeaderObj),
+        4 => Some(Form::Pair(PairCall::AddContentHeader)),
+        5 => Some(Form::Text(TextCall::WithFrom)),
+        6 => Some(Form::Text(TextCall::WithTo)),
+        7 => Some(Form::Text(TextCall::WithDatetime)),
+        8 => Some(Form::Text(TextCall::WithSubject)),
+        9 => Some(Form::Pair(PairCall::WithSubjectLang)),
+        10 => Some(Form::Text(TextCall::WithCc)),
+        11 => Some(Form::Pair(PairCall::WithNs)),
+        12 => Some(Form::Text(TextCall::WithRequire)),
+        13 => Some(Form::Pair(PairCall::WithContentHeader)),
+        _ => None,
     }
-    let kinds = KINDS;
-    kinds[number as usize]
 }
 
-// The place behind the call at a place; 0 where no whole call stands there.
-pub fn call_end(s: &[u8], at: usize) -> usize
+// The place behind the call at a place; None where no whole call stands there.
+pub fn call_end(s: &[u8], at: usize) -> Option<usize>
     requires { at ≤ length s.now }
-    ensures { result ≡ end_of (complete (form_of (get_or s.now at 0)) (drop (at + 1) s.now)) (at + 1 + size_of (form_of (get_or s.now at 0)) (drop (at + 1) s.now)) }
+    ensures { given result ≡ end_of (complete (form_of (get_or s.now at 0)) (drop (at + 1) s.now)) (at + 1 + size_of (form_of (get_or s.now at 0)) (drop (at + 1) s.now)) }
 {
     if at == s.len() {
-        return 0;
+        return None;
     }
-    let kind = kind_of(s[at]);
     let from = at + 1;
-    if kind == 1 {
-        return argument_end(s, from);
+    match form_of(s[at])? {
+        Form::Text(_) => argument_end(s, from),
+        Form::Pair(_) => two_end(s, from),
+        Form::AddHeaderObj => header_end(s, from),
     }
-    if kind == 2 {
-        return two_end(s, from);
-    }
-    if kind == 3 {
-        return header_end(s, from);
-    }
-    0
 }

@@ -4,29 +4,28 @@
 ghost use Rattle.format.specs.Calls.{new};
 ghost use Rattle.format.specs.Reading.{read};
 ghost use Rattle.format.specs.Layout.{empty_message};
-ghost use Rattle.format.specs.Lending.{both_lent, lengths, numbers_of, zeroed};
+ghost use Rattle.format.specs.Lending.{both_lent, lengths, zeroed};
+ghost use Rattle.format.specs.Told.{told};
+ghost use Rattle.std.specs.Result.{result_unwrap_or};
 ghost use Rattle.calls_script.specs.Script.{state, calls_in};
 ghost use Rattle.calls_write.specs.Began.{Began, ReadThenRun, MadeThenRun};
 
 use calls_run::run;
-use format::Answer;
+use format::{CpimMessage, Refusal};
 use read::parse_cpim;
 
 // A text read, then the calls; refused, no call is made.
-pub fn read_and_run(text: &[u8], script: &[u8], head: &mut [u8], body: &mut [u8]) -> Answer
-    ensures steps { ReadThenRun text.now (both_lent empty_message head.old body.old) (calls_in script.now) (state result.message head.new body.new) (numbers_of result) }
-    ensures began { Began (read text.now (lengths (both_lent empty_message head.old body.old))) (lengths (both_lent empty_message head.old body.old)) (calls_in script.now) (both_lent empty_message (zeroed head.old) (zeroed body.old)) (both_lent result.message head.new body.new) (numbers_of result) }
+pub fn read_and_run(
+    text: &[u8],
+    script: &[u8],
+    head: &mut [u8],
+    body: &mut [u8],
+) -> Result<CpimMessage, Refusal>
+    ensures steps { ReadThenRun text.now (both_lent empty_message head.old body.old) (calls_in script.now) (state (result_unwrap_or result empty_message) head.new body.new) (told result) }
+    ensures began { Began (read text.now (lengths (both_lent empty_message head.old body.old))) (lengths (both_lent empty_message head.old body.old)) (calls_in script.now) (both_lent empty_message (zeroed head.old) (zeroed body.old)) (both_lent (result_unwrap_or result empty_message) head.new body.new) (told result) }
 {
-    let parsed = parse_cpim(text, head, body);
-    if parsed.number != 0 {
-        return parsed;
-    }
-    let last = run(script, parsed.message, head, body);
-    Answer {
-        number: 0,
-        carried: 0,
-        message: last,
-    }
+    let parsed = parse_cpim(text, head, body)?;
+    Ok(run(script, parsed, head, body))
 }
 
 // A message of a type and a body, then the calls; refused, no call is made.
@@ -36,18 +35,10 @@ pub fn new_and_run(
     script: &[u8],
     head: &mut [u8],
     body: &mut [u8],
-) -> Answer
-    ensures steps { MadeThenRun content_type.now content.now (both_lent empty_message head.old body.old) (calls_in script.now) (state result.message head.new body.new) (numbers_of result) }
-    ensures began { Began (new content_type.now content.now (lengths (both_lent empty_message head.old body.old))) (lengths (both_lent empty_message head.old body.old)) (calls_in script.now) (both_lent empty_message head.old body.old) (both_lent result.message head.new body.new) (numbers_of result) }
+) -> Result<CpimMessage, Refusal>
+    ensures steps { MadeThenRun content_type.now content.now (both_lent empty_message head.old body.old) (calls_in script.now) (state (result_unwrap_or result empty_message) head.new body.new) (told result) }
+    ensures began { Began (new content_type.now content.now (lengths (both_lent empty_message head.old body.old))) (lengths (both_lent empty_message head.old body.old)) (calls_in script.now) (both_lent empty_message head.old body.old) (both_lent (result_unwrap_or result empty_message) head.new body.new) (told result) }
 {
-    let made = message::new(content_type, content, head, body);
-    if made.number != 0 {
-        return made;
-    }
-    let left = run(script, made.message, head, body);
-    Answer {
-        number: 0,
-        carried: 0,
-        message: left,
-    }
+    let made = message::new(content_type, content, head, body)?;
+    Ok(run(script, made, head, body))
 }

@@ -10,6 +10,8 @@ ghost use Rattle.format.specs.Calls.{new};
 ghost use Rattle.format.specs.Reading.{read};
 ghost use Rattle.format.specs.Layout.{empty_message};
 ghost use Rattle.format.specs.Lending.{both_lent, lengths, zeroed};
+ghost use Rattle.format.specs.Told.{told};
+ghost use Rattle.std.specs.Result.{result_unwrap_or};
 ghost use Rattle.format.specs.declared.CpimMessage.{CpimMessage};
 ghost use Rattle.format.specs.declared.Numbers.{Numbers};
 ghost use Rattle.calls_script.specs.Script.{state, calls_in};
@@ -17,20 +19,8 @@ ghost use Rattle.calls_write.specs.Began.{ReadThenRun, MadeThenRun};
 ghost use Rattle.calls_write.specs.Sent.{Sent};
 
 use crate::begun::{new_and_run, read_and_run};
-use format::Answer;
-use read_split::LengthAnswer;
+use format::Refusal;
 use write::to_string;
-
-// A refusal's numbers; nothing is written.
-fn length_refused(a: Answer) -> LengthAnswer
-    ensures { (result.number ≡ a.number) × (result.carried ≡ a.carried) × (result.length ≡ 0) }
-{
-    LengthAnswer {
-        number: a.number,
-        carried: a.carried,
-        length: 0,
-    }
-}
 
 // A text read, the calls, the text.
 pub fn read_run_write(
@@ -39,15 +29,12 @@ pub fn read_run_write(
     head: &mut [u8],
     body: &mut [u8],
     out: &mut [u8],
-) -> LengthAnswer
+) -> Result<usize, Refusal>
     ensures steps { (k : CpimMessage) × (n : Numbers) × ReadThenRun text.now (both_lent empty_message head.old body.old) (calls_in script.now) (state k head.new body.new) n }
-    ensures sent { Sent (read text.now (lengths (both_lent empty_message head.old body.old))) (lengths (both_lent empty_message head.old body.old)) (calls_in script.now) (both_lent empty_message (zeroed head.old) (zeroed body.old)) head.new body.new out.old out.new result }
+    ensures sent { Sent (read text.now (lengths (both_lent empty_message head.old body.old))) (lengths (both_lent empty_message head.old body.old)) (calls_in script.now) (both_lent empty_message (zeroed head.old) (zeroed body.old)) head.new body.new out.old out.new (told result) (result_unwrap_or result 0) }
 {
-    let begun = read_and_run(text, script, head, body);
-    if begun.number != 0 {
-        return length_refused(begun);
-    }
-    to_string(begun.message, head, body, out)
+    let begun = read_and_run(text, script, head, body)?;
+    to_string(begun, head, body, out)
 }
 
 // A message of a type and a body, the calls, the text.
@@ -58,13 +45,10 @@ pub fn new_run_write(
     head: &mut [u8],
     body: &mut [u8],
     out: &mut [u8],
-) -> LengthAnswer
+) -> Result<usize, Refusal>
     ensures steps { (k : CpimMessage) × (n : Numbers) × MadeThenRun content_type.now content.now (both_lent empty_message head.old body.old) (calls_in script.now) (state k head.new body.new) n }
-    ensures sent { Sent (new content_type.now content.now (lengths (both_lent empty_message head.old body.old))) (lengths (both_lent empty_message head.old body.old)) (calls_in script.now) (both_lent empty_message head.old body.old) head.new body.new out.old out.new result }
+    ensures sent { Sent (new content_type.now content.now (lengths (both_lent empty_message head.old body.old))) (lengths (both_lent empty_message head.old body.old)) (calls_in script.now) (both_lent empty_message head.old body.old) head.new body.new out.old out.new (told result) (result_unwrap_or result 0) }
 {
-    let made = new_and_run(content_type, content, script, head, body);
-    if made.number != 0 {
-        return length_refused(made);
-    }
-    to_string(made.message, head, body, out)
+    let made = new_and_run(content_type, content, script, head, body)?;
+    to_string(made, head, body, out)
 }

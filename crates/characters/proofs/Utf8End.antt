@@ -1,4 +1,4 @@
--- Laws of charLen, subpartLen and utf8End: what stands at the front of a text is its first character or subpart, going over
+-- Laws of `char_len`, `subpart_len` and `utf8_end`: what stands at the front of a text is its first character or subpart, going over
 -- UTF-8 leaves where UTF-8 ends, and a text is UTF-8 exactly when that is its own end. Assumes nothing.
 use Prim.Native.Nat.{ℕ, ◌+◌, ◌-◌, ◌≤◌, ◌<◌}
 use mathlib.Core.Path.{◌≡◌, refl, sym, ap, ◌∙◌}

@@ -9,23 +9,21 @@ use native.Mathlib.Omega.{arith}
 use lib.ListN.{length, take, drop, get_or, length-append, length-drop, take-append-drop}
 use lib.Seq.{length-take-le, take-append_seam, drop-append_seam}
 use borrow.Author.Tests.{ne_eqb}
+use Rattle.std.specs.Prelude.{Option, Some, None, MatchOption, unwrap_or}
 use Rattle.format.specs.Bytes.{Bytes, texts}
 use Rattle.format.specs.Characters.{chars, flat, last_of, is_lost}
 use Rattle.format.proofs.Lists.{bcase}
 use Rattle.format.proofs.Escaping.EndForm.{lost_is_white, lost_whole}
 use Rattle.format.proofs.Characters.Chars.{flat_chars, chars_nil, chars_whole, chars_ascii, ascii_whole}
-use Rattle.characters.proofs.Utf8End.{subpart_chars}
+use Rattle.code_points.specs.Edges.{AFront, NoFront, ABack, NoBack}
 use Rattle.code_points.specs.Ends.{lost_size, lost_front, lost_back}
-use Rattle.code_points.proofs.WhiteTests.{white_short, white_high, lost_dark, lost_low}
+use Rattle.code_points.proofs.WhiteTests.{white_short, lost_low}
 use Rattle.code_points.proofs.LastChar.{chars_last}
-use Rattle.code_points.proofs.ShortEnds.{Ending, ending, whole_some, first_fails, last_fails}
+use Rattle.code_points.proofs.ShortEnds.{Ending, ending, whole_some}
 use Rattle.code_points.proofs.Stripping.{first_byte, last_byte}
 
-lost_short : (g : Bytes) → is_lost g ≡ true → length g ≤ 3
+pub lost_short : (g : Bytes) → is_lost g ≡ true → length g ≤ 3
 lost_short g h = white_short g (lost_is_white g h)
-
-lost_high : (b : ℕ) → 128 ≤ b → is_lost (b ∷ []) ≡ false
-lost_high b h = sym (lost_dark (b ∷ []) (white_high b h))
 
 size_lost : (g : Bytes) → is_lost g ≡ true → lost_size g ≡ length g
 unfolding lost_size
@@ -37,9 +35,6 @@ size_kept g h = rw h refl
 
 size_most : (g : Bytes) → lost_size g ≤ length g
 size_most g = ⊎_elim (λ l. omega (arith, size_lost g l)) (λ k. omega (arith, size_kept g k)) (bcase (is_lost g))
-
-size_space : lost_size (0x20 ∷ []) ≡ 1
-size_space = size_lost (0x20 ∷ []) (lost_low 0x20 (omega arith))
 
 size_ascii : (b : ℕ) → b < 128 → (b ≡ 0x20 → ⊥) → lost_size (b ∷ []) ≡ 0
 size_ascii b h n = size_kept (b ∷ []) (lost_low b h ∙ ne_eqb b 0x20 n)
@@ -105,41 +100,31 @@ module _ (u : Bytes) (h : 0 < length u) where
       ap lost_back (ap chars (sym (take-append-drop m u) ∙ ap (λ (x : Bytes). take m u ++ x) (last_byte u h)) ∙ chars_last (take m u) (b ∷ []) (ascii_whole b l))
       ∙ back_last (chars (take m u)) (b ∷ [])
 
-  -- an ASCII byte decides alone
-  pub front_space : get_or u 0 0 < 128 → get_or u 0 0 ≡ 0x20 → 1 ≡ lost_front (chars u)
-  front_space l e = sym (front_chars l ∙ ap (λ b. lost_size (b ∷ [])) e ∙ size_space)
-
+  -- an ASCII byte that is no space decides alone
   pub front_ascii : get_or u 0 0 < 128 → (get_or u 0 0 ≡ 0x20 → ⊥) → 0 ≡ lost_front (chars u)
   front_ascii l e = sym (front_chars l ∙ size_ascii (get_or u 0 0) l e)
-
-  pub back_space : get_or u (length u - 1) 0 < 128 → get_or u (length u - 1) 0 ≡ 0x20 → 1 ≡ lost_back (chars u)
-  back_space l e = sym (back_chars l ∙ ap (λ b. lost_size (b ∷ [])) e ∙ size_space)
 
   pub back_ascii : get_or u (length u - 1) 0 < 128 → (get_or u (length u - 1) 0 ≡ 0x20 → ⊥) → 0 ≡ lost_back (chars u)
   back_ascii l e = sym (back_chars l ∙ size_ascii (get_or u (length u - 1) 0) l e)
 
-  -- none of two or three bytes, where no ASCII byte stands there
-  pub front_none : 128 ≤ get_or u 0 0 → (2 ≤ length u → is_lost (take 2 u) ≡ false) → (3 ≤ length u → is_lost (take 3 u) ≡ false) → 0 ≡ lost_front (chars u)
-  front_none l b c =
-      sym
-      (ap lost_front (subpart_chars u h)
-      ∙ front_first _ _
-      ∙ size_kept _ (first_fails is_lost lost_whole lost_short u h (ap is_lost (first_byte u h) ∙ lost_high (get_or u 0 0) l) b c))
+-- what is found at an end, as a number
+pub front_found : (u : Bytes) (o : Option ℕ) → MatchOption o (NoFront is_lost u) (AFront is_lost u) → unwrap_or o 0 ≡ lost_front (chars u)
+unfolding lost_front
+front_found u None n = go (chars u) refl
+  where
+    go : (gs : List Bytes) → chars u ≡ gs → 0 ≡ lost_front gs
+    go [] e = refl
+    go (g ∷ gs) e = sym (size_kept g (n.fails g gs e))
+front_found u (Some r) f = front_is u r f.inside f.passes
 
-  pub back_none :
-      128 ≤ get_or u (length u - 1) 0
-      → (2 ≤ length u → is_lost (drop (length u - 2) u) ≡ false)
-      → (3 ≤ length u → is_lost (drop (length u - 3) u) ≡ false)
-      → 0 ≡ lost_back (chars u)
-  unfolding lost_back
-  back_none l b c = go (chars u) refl
-    where
-      a : is_lost (drop (length u - 1) u) ≡ false
-      a = ap is_lost (last_byte u h) ∙ lost_high (get_or u (length u - 1) 0) l
-
-      go : (gs : List Bytes) → chars u ≡ gs → 0 ≡ lost_back gs
-      go [] e = refl
-      go (g ∷ gs) e = sym (size_kept (last_of g gs) (last_fails is_lost lost_whole lost_short u a b c g gs e))
+pub back_found : (u : Bytes) (o : Option ℕ) → MatchOption o (NoBack is_lost u) (ABack is_lost u) → unwrap_or o 0 ≡ lost_back (chars u)
+unfolding lost_back
+back_found u None n = go (chars u) refl
+  where
+    go : (gs : List Bytes) → chars u ≡ gs → 0 ≡ lost_back gs
+    go [] e = refl
+    go (g ∷ gs) e = sym (size_kept (last_of g gs) (n.fails g gs e))
+back_found u (Some r) f = back_is u r f.inside f.passes
 
 -- where none is lost, the character is not such
 kept_size : (g : Bytes) → lost_size g ≡ 0 → is_lost g ≡ false

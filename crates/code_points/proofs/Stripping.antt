@@ -7,15 +7,19 @@ use mathlib.Core.List.{List, [], ◌∷◌, ◌++◌}
 use native.Mathlib.Omega.{arith}
 use lib.ListN.{length, take, drop, get_or, length-drop, take-append-drop}
 use lib.Seq.{drop-cons, drop-length, drop-drop, take-take, length-take-le}
+use Rattle.std.specs.Prelude.{None}
+use Rattle.std.specs.List.{slice_get}
+use Rattle.std.proofs.lemmas.Option.{none-some, slice_get-get_or}
 use Rattle.format.specs.Bytes.{Bytes}
-use Rattle.format.specs.Characters.{chars, flat, is_white, drop_front, drop_back, trim_by, trim}
-use Rattle.format.proofs.Lists.{rest_is}
+use Rattle.format.specs.Characters.{chars, flat, well_formed, last_of, is_white, drop_front, drop_back, trim_by, trim}
+use mathlib.Core.Logic.{⊎_elim}
+use Rattle.format.proofs.Lists.{below, rest_is}
 use Rattle.format.proofs.Characters.Chars.{flat_chars, chars_nil, chars_whole, chars_ascii, ascii_whole}
 use Rattle.format.proofs.Characters.Trim.{back_clear_lem}
 use Rattle.characters.specs.Lengths.{subpart_len}
 use Rattle.characters.proofs.Utf8End.{subpart_chars}
-use Rattle.code_points.proofs.WhiteTests.{white_short, white_whole}
-use Rattle.code_points.specs.Trimming.{WhiteFront, WhiteBack}
+use Rattle.code_points.proofs.WhiteTests.{white_whole}
+use Rattle.code_points.specs.Edges.{AFront, NoFront, ABack, NoBack}
 use Rattle.code_points.proofs.LastChar.{chars_last}
 use Rattle.code_points.proofs.ShortEnds.{first_fails, last_fails}
 
@@ -52,32 +56,27 @@ module _ (p : Bytes → Bool) where
   back_stays (x ∷ []) g h = rw h refl
   back_stays (x ∷ y ∷ gs) g h = rw (back_stays (y ∷ gs) g h) refl
 
+-- the last of some characters
+last_is : (g : Bytes) (gs : List Bytes) (hs : List Bytes) (k : Bytes) → g ∷ gs ≡ hs ++ (k ∷ []) → last_of g gs ≡ k
+unfolding last_of
+last_is g gs [] k e = single gs (cc) ∙ cc
+  where
+    single : (gs : List Bytes) → gs ≡ [] → last_of g gs ≡ g
+    single [] e = refl
+    single (h ∷ gs) e = absurd (cc)
+last_is g [] (x ∷ hs) k e = absurd (some hs (cc))
+  where
+    some : (hs : List Bytes) → [] ≡ hs ++ (k ∷ []) → ⊥
+    some [] e = cc
+    some (x ∷ hs) e = cc
+last_is g (h ∷ gs) (x ∷ hs) k e = last_is h gs hs k (cc)
+
 -- a white-space character in front is dropped
 pub front_step : (u : Bytes) (r : ℕ) → is_white (take r u) ≡ true → drop_front is_white (chars u) ≡ drop_front is_white (chars (drop r u))
 front_step u r h =
     ap (λ (x : Bytes). drop_front is_white (chars x)) (sym (take-append-drop r u))
     ∙ ap (drop_front is_white) (chars_whole (take r u) (drop r u) (white_whole (take r u) h))
     ∙ front_drops is_white (take r u) (chars (drop r u)) h
-
--- Nothing is dropped where no character of one, two or three bytes in front is white space.
-pub front_none :
-    (u : Bytes)
-    → 0 < length u
-    → is_white (take 1 u) ≡ false
-    → (2 ≤ length u → is_white (take 2 u) ≡ false)
-    → (3 ≤ length u → is_white (take 3 u) ≡ false)
-    → drop_front is_white (chars u) ≡ chars u
-front_none u h a b c =
-    rw (subpart_chars u h)
-    (front_keeps is_white (take (subpart_len u) u) (chars (drop (subpart_len u) u)) (first_fails is_white white_whole white_short u h a b c))
-
-pub front_low : (u : Bytes) → 0 < length u → get_or u 0 0 < 0x80 → is_white (get_or u 0 0 ∷ []) ≡ false → drop_front is_white (chars u) ≡ chars u
-front_low [] h l w = absurd (omega arith)
-front_low (b ∷ t) h l w = rw (chars_ascii b t l) (front_keeps is_white (b ∷ []) (chars t) w)
-
-pub front_empty : (u : Bytes) → length u ≡ 0 → drop_front is_white (chars u) ≡ chars u
-front_empty [] h = rw chars_nil (front_nothing is_white)
-front_empty (b ∷ t) h = absurd (omega arith)
 
 -- a white-space character at the back is dropped
 pub back_step : (u : Bytes) (m : ℕ) → is_white (drop m u) ≡ true → drop_back is_white (chars u) ≡ drop_back is_white (chars (take m u))
@@ -86,73 +85,100 @@ back_step u m h =
     ∙ ap (drop_back is_white) (chars_last (take m u) (drop m u) (white_whole (drop m u) h))
     ∙ back_drops is_white (chars (take m u)) (drop m u) h
 
--- Nothing is dropped where no character of one, two or three bytes at the back is white space.
-pub back_none :
-    (u : Bytes)
-    → is_white (drop (length u - 1) u) ≡ false
-    → (2 ≤ length u → is_white (drop (length u - 2) u) ≡ false)
-    → (3 ≤ length u → is_white (drop (length u - 3) u) ≡ false)
-    → drop_back is_white (chars u) ≡ chars u
-back_none u a b c = go (chars u) refl
-  where
-    go : (gs : List Bytes) → chars u ≡ gs → drop_back is_white (chars u) ≡ chars u
-    go [] e = rw e (back_nothing is_white)
-    go (g ∷ gs) e = rw e (back_clear_lem is_white g gs (last_fails is_white white_whole white_short u a b c g gs e))
-
-pub back_low : (u : Bytes) → 0 < length u → get_or u (length u - 1) 0 < 0x80 → is_white (get_or u (length u - 1) 0 ∷ []) ≡ false → drop_back is_white (chars u) ≡ chars u
-back_low u h l w =
-    let m = length u - 1 in
-    let b = get_or u m 0 in
-    let d : drop m u ≡ b ∷ [] = last_byte u h in
-    let e : chars u ≡ chars (take m u) ++ ((b ∷ []) ∷ []) =
-    ap chars (sym (take-append-drop m u) ∙ ap (λ (x : Bytes). take m u ++ x) d) ∙ chars_last (take m u) (b ∷ []) (ascii_whole b l) in
-    rw e (back_stays is_white (chars (take m u)) (b ∷ []) w)
-
-pub back_empty : (u : Bytes) → length u ≡ 0 → drop_back is_white (chars u) ≡ chars u
-back_empty [] h = rw chars_nil (back_nothing is_white)
-back_empty (b ∷ t) h = absurd (omega arith)
-
--- What one step finds, as its function says it.
-pub no_front : (u : Bytes) → drop_front is_white (chars u) ≡ chars u → WhiteFront u 0
-no_front u e = record { inside = omega arith; white = λ h. absurd (omega arith); none = λ z. e }
-
-pub a_front : (u : Bytes) (r : ℕ) → 0 < r → r ≤ length u → is_white (take r u) ≡ true → WhiteFront u r
-a_front u r p h w = record { inside = h; white = λ q. w; none = λ z. absurd (omega arith) }
-
-pub no_back : (u : Bytes) → drop_back is_white (chars u) ≡ chars u → WhiteBack u 0
-no_back u e = record { inside = omega arith; white = λ h. absurd (omega arith); none = λ z. e }
-
-pub a_back : (u : Bytes) (r : ℕ) → 0 < r → r ≤ length u → is_white (drop (length u - r) u) ≡ true → WhiteBack u r
-a_back u r p h w = record { inside = h; white = λ q. w; none = λ z. absurd (omega arith) }
-
 pub first_byte : (u : Bytes) → 0 < length u → take 1 u ≡ get_or u 0 0 ∷ []
 first_byte [] h = absurd (omega arith)
 first_byte (b ∷ t) h = refl
 
-module _ (s : Bytes) (at n : ℕ) (h : at ≤ length s) (w : WhiteFront (take (length s - at) (drop at s)) n) where
-  front_at : WhiteFront (drop at s) n
-  front_at = subst (λ (x : Bytes). WhiteFront x n) (rest_is s at) w
+-- Where none of the first character's prefixes passes, or of the last one's suffixes; an ASCII byte decides alone.
+module _ (p : Bytes → Bool) (whole : (g : Bytes) → p g ≡ true → well_formed g ≡ true) (short : (g : Bytes) → p g ≡ true → length g ≤ 3) (u : Bytes) where
+  pub no_front : 0 < length u → ((k : ℕ) → 0 < k → k ≤ 3 → k ≤ length u → (get_or u 0 0 < 128 → k ≤ 1) → p (take k u) ≡ false) → NoFront p u
+  no_front h tried = record { fails = λ g gs e. ⊎_elim (λ l. low l g gs e) (λ m. high m g gs e) (below (get_or u 0 0) 128) }
+    where
+      one : p (take 1 u) ≡ false
+      one = tried 1 (omega arith) (omega arith) (omega arith) (λ l. omega arith)
+
+      low : get_or u 0 0 < 128 → (g : Bytes) (gs : List Bytes) → chars u ≡ g ∷ gs → p g ≡ false
+      low l g gs e =
+          let f : chars u ≡ (get_or u 0 0 ∷ []) ∷ chars (drop 1 u) =
+          ap chars (sym (take-append-drop 1 u) ∙ ap (λ (x : Bytes). x ++ drop 1 u) (first_byte u h)) ∙ chars_ascii (get_or u 0 0) (drop 1 u) l in
+          let k : g ≡ take 1 u = cc (first_byte u h) in
+          ap p k ∙ one
+
+      high : 128 ≤ get_or u 0 0 → (g : Bytes) (gs : List Bytes) → chars u ≡ g ∷ gs → p g ≡ false
+      high m g gs e =
+          let f = subpart_chars u h in
+          let k : g ≡ take (subpart_len u) u = cc in
+          ap p k
+          ∙ first_fails p whole short u h one
+          (λ l. tried 2 (omega arith) (omega arith) l (λ n. absurd (omega arith)))
+          (λ l. tried 3 (omega arith) (omega arith) l (λ n. absurd (omega arith)))
+
+  pub no_back : 0 < length u → ((k : ℕ) → 0 < k → k ≤ 3 → k ≤ length u → (get_or u (length u - 1) 0 < 128 → k ≤ 1) → p (drop (length u - k) u) ≡ false) → NoBack p u
+  no_back h tried = record { fails = λ g gs e. ⊎_elim (λ l. low l g gs e) (λ m. high m g gs e) (below (get_or u (length u - 1) 0) 128) }
+    where
+      one : p (drop (length u - 1) u) ≡ false
+      one = tried 1 (omega arith) (omega arith) (omega arith) (λ l. omega arith)
+
+      low : get_or u (length u - 1) 0 < 128 → (g : Bytes) (gs : List Bytes) → chars u ≡ g ∷ gs → p (last_of g gs) ≡ false
+      low l g gs e =
+          let m = length u - 1 in
+          let b = get_or u m 0 in
+          let f : chars u ≡ chars (take m u) ++ ((b ∷ []) ∷ []) =
+          ap chars (sym (take-append-drop m u) ∙ ap (λ (x : Bytes). take m u ++ x) (last_byte u h)) ∙ chars_last (take m u) (b ∷ []) (ascii_whole b l) in
+          ap p (last_is g gs (chars (take m u)) (b ∷ []) (sym e ∙ f) ∙ sym (last_byte u h)) ∙ one
+
+      high : 128 ≤ get_or u (length u - 1) 0 → (g : Bytes) (gs : List Bytes) → chars u ≡ g ∷ gs → p (last_of g gs) ≡ false
+      high m g gs e =
+          last_fails p whole short u one
+          (λ l. tried 2 (omega arith) (omega arith) l (λ n. absurd (omega arith)))
+          (λ l. tried 3 (omega arith) (omega arith) l (λ n. absurd (omega arith)))
+          g gs e
+
+-- A text without a byte at its end has no characters.
+pub no_chars : (u : Bytes) (k : ℕ) → k ≤ length u - 1 → slice_get u k ≡ None → chars u ≡ []
+no_chars [] k l e = chars_nil
+no_chars (b ∷ t) k l e = absurd (none-some (get_or (b ∷ t) k 0) (sym e ∙ slice_get-get_or (b ∷ t) k 0 (omega arith)))
+
+pub no_front_empty : (p : Bytes → Bool) (u : Bytes) → slice_get u 0 ≡ None → NoFront p u
+no_front_empty p u e = let f = no_chars u 0 (omega arith) e in record { fails = λ g gs h. absurd (cc) }
+
+pub no_back_empty : (p : Bytes → Bool) (u : Bytes) → slice_get u (length u - 1) ≡ None → NoBack p u
+no_back_empty p u e = let f = no_chars u (length u - 1) (omega arith) e in record { fails = λ g gs h. absurd (cc) }
+
+-- Trimming stops where no white space stands in front, or at the back.
+pub front_stop : (u : Bytes) → NoFront is_white u → drop_front is_white (chars u) ≡ chars u
+front_stop u n = go (chars u) refl
+  where
+    go : (gs : List Bytes) → chars u ≡ gs → drop_front is_white gs ≡ gs
+    go [] e = front_nothing is_white
+    go (g ∷ gs) e = front_keeps is_white g gs (n.fails g gs e)
+
+pub back_stop : (u : Bytes) → NoBack is_white u → flat (drop_back is_white (chars u)) ≡ u
+back_stop u n = go (chars u) refl
+  where
+    go : (gs : List Bytes) → chars u ≡ gs → flat (drop_back is_white (chars u)) ≡ u
+    go [] e = rw (e, back_nothing is_white) (ap flat (sym e) ∙ flat_chars u)
+    go (g ∷ gs) e = rw e (ap flat (back_clear_lem is_white g gs (n.fails g gs e)) ∙ ap flat (sym e) ∙ flat_chars u)
+
+-- and passes over one that does.
+module _ (s : Bytes) (at n : ℕ) (h : at ≤ length s) (w : AFront is_white (take (length s - at) (drop at s)) n) where
+  front_at : AFront is_white (drop at s) n
+  front_at = subst (λ (x : Bytes). AFront is_white x n) (rest_is s at) w
 
   pub front_inside : at + n ≤ length s
   front_inside = omega (arith, front_at.inside, length-drop at s)
 
-  pub front_on : (n ≡ 0 → ⊥) → drop_front is_white (chars (drop at s)) ≡ drop_front is_white (chars (drop (at + n) s))
-  front_on p = front_step (drop at s) n (front_at.white (omega arith)) ∙ rw (drop-drop n at s) refl
+  pub front_on : drop_front is_white (chars (drop at s)) ≡ drop_front is_white (chars (drop (at + n) s))
+  front_on = front_step (drop at s) n front_at.passes ∙ rw (drop-drop n at s) refl
 
-  pub front_stop : n ≡ 0 → drop_front is_white (chars (drop at s)) ≡ chars (drop at s)
-  front_stop z = front_at.none z
-
-module _ (s : Bytes) (end n : ℕ) (h : end ≤ length s) (w : WhiteBack (take end s) n) where
+module _ (s : Bytes) (end n : ℕ) (h : end ≤ length s) (w : ABack is_white (take end s) n) where
   pub back_inside : n ≤ end
   back_inside = omega (arith, w.inside, length-take-le end s h)
 
-  pub back_on : (n ≡ 0 → ⊥) → drop_back is_white (chars (take end s)) ≡ drop_back is_white (chars (take (end - n) s))
-  back_on p =
-      back_step (take end s) (length (take end s) - n) (w.white (omega arith))
+  pub back_on : drop_back is_white (chars (take end s)) ≡ drop_back is_white (chars (take (end - n) s))
+  back_on =
+      back_step (take end s) (length (take end s) - n) w.passes
       ∙ rw (length-take-le end s h, take-take (end - n) end s (omega arith)) refl
-
-  pub back_stop : n ≡ 0 → flat (drop_back is_white (chars (take end s))) ≡ take end s
-  back_stop z = ap flat (w.none z) ∙ flat_chars (take end s)
 
 -- both ends together
 pub trimmed :

@@ -1,18 +1,19 @@
 -- White space, control characters and code points as the code tests them. That a byte alone is white space is one test that
 -- computes over the 128 bytes; that white space has at most three bytes is one that computes over the 25 numbers. Assumes nothing.
-use Prim.Native.Nat.{ℕ, zero, suc, ◌+◌, ◌*◌, ◌%◌, ◌≤◌, ◌<◌}
+use Prim.Native.Nat.{ℕ, zero, suc, ◌+◌, ◌-◌, ◌*◌, ◌%◌, ◌≤◌, ◌<◌}
 use mathlib.Core.Path.{◌≡◌, refl, sym, ap, ◌∙◌}
-use mathlib.Core.Bool.{Bool, true, false, not, ◌&&◌, ◌||◌, false≢true, and-false, and-true, or-true}
+use mathlib.Core.Bool.{Bool, true, false, not, ◌&&◌, ◌||◌, false≢true, and-false, and-true, or-true, or-false}
 use mathlib.Core.Logic.{◌⊎◌, inl, inr, ⊎_elim}
-use mathlib.Core.List.{List, [], ◌∷◌, append-nil}
+use mathlib.Core.List.{[], ◌∷◌, append-nil}
 use native.Mathlib.Omega.{arith}
-use native.Mathlib.Numerals.{add-one}
 use lib.Dec.{leb, ltb, eqb}
-use lib.ListN.{length, take, drop, get_or, length-take, drop_of_length-le}
-use lib.Seq.{drop-cons, take-length}
+use lib.ListN.{length, take, drop, get_or, length-take}
+use lib.Seq.{take-length}
 use borrow.Author.Tests.{leb-true, lt-leb, ltb-true, ltb-false, lt-ltb, le-ltb, eqb-true, eqb-false, eq-eqb, ne_eqb}
 use Rattle.format.specs.Bytes.{Bytes, all, any}
 use Rattle.format.specs.Characters.{◌to◌, within, well_formed, chars, code_point, white_space, is_white, is_control, is_control_code, is_lost}
+use Rattle.std.specs.Prelude.{Some, None}
+use Rattle.std.specs.List.{slice_get}
 use Rattle.format.proofs.Lists.{bcase, below, clash, or_intro_right}
 use Rattle.format.proofs.Rulesets.{tests}
 use Rattle.format.proofs.Characters.WhiteSpace.{white_all}
@@ -73,6 +74,9 @@ point-other (a ∷ b ∷ c ∷ []) h i j k = absurd (j refl)
 point-other (a ∷ b ∷ c ∷ d ∷ []) h i j k = absurd (k refl)
 point-other (a ∷ b ∷ c ∷ d ∷ e ∷ t) h i j k = refl
 
+-- what a slice's code point is, by its length
+pub ruleset points = (point_one, point_two, point_three, point-four, point-other)
+
 -- a whole character is all that a text of it alone begins with
 whole_len_lem : (g : Bytes) → well_formed g ≡ true → char_len g ≡ length g
 unfolding char_len
@@ -106,18 +110,7 @@ whole_none g n e h =
     nonempty [] w l = unfold well_formed in false≢true w
     nonempty (b ∷ t) w l = omega arith
 
--- the search through a list of numbers
-pub any_hit : (n : ℕ) (xs : List ℕ) (i : ℕ) → i < length xs → n ≡ get_or xs i 0 → any (eqb n) (drop i xs) ≡ true
-unfolding any
-any_hit n xs i h e = rw (drop-cons xs i 0 h, eq-eqb n (get_or xs i 0) e) refl
-
-pub any_miss : (n : ℕ) (xs : List ℕ) (i : ℕ) → i < length xs → (n ≡ get_or xs i 0 → ⊥) → any (eqb n) (drop i xs) ≡ any (eqb n) (drop (i + 1) xs)
-unfolding any
-any_miss n xs i h e = rw (add-one i, drop-cons xs i 0 h, ne_eqb n (get_or xs i 0) e) refl
-
-pub any_end : (n : ℕ) (xs : List ℕ) (i : ℕ) → length xs ≤ i → any (eqb n) (drop i xs) ≡ false
-unfolding any
-any_end n xs i h = rw (drop_of_length-le xs h) refl
+pub ruleset wholes = (whole_none, whole_tested)
 
 -- both tests pass or both fail
 agree : Bool → Bool → Bool
@@ -144,6 +137,43 @@ at_below p (suc n) b h l =
     (λ e. rw (eqb-true b n e) (simp tests at h).0)
     (λ e. at_below p n b (simp tests at h).1 (omega (arith, eqb-false b n e)))
     (bcase (eqb b n))
+
+-- the numbers of the table, by their ranges
+among : (from count n : ℕ) → every_below (λ k. any (eqb (from + k)) white_space) count ≡ true → from ≤ n → n < from + count → any (eqb n) white_space ≡ true
+among from count n h l m =
+    let e : from + (n - from) ≡ n = omega arith in
+    ap (λ k. any (eqb k) white_space) (sym e) ∙ at_below (λ k. any (eqb (from + k)) white_space) count (n - from) h (omega arith)
+
+pub listed_controls : (n : ℕ) → 0x09 ≤ n → n ≤ 0x0D → any (eqb n) white_space ≡ true
+unfolding any every_below
+listed_controls n h l = among 0x09 5 n refl h (omega arith)
+
+pub listed_spaces : (n : ℕ) → 0x2000 ≤ n → n ≤ 0x200A → any (eqb n) white_space ≡ true
+unfolding any every_below
+listed_spaces n h l = among 0x2000 11 n refl h (omega arith)
+
+pub listed_ends : (n : ℕ) → 0x2028 ≤ n → n ≤ 0x2029 → any (eqb n) white_space ≡ true
+unfolding any every_below
+listed_ends n h l = among 0x2028 2 n refl h (omega arith)
+
+pub listed_one : (n : ℕ) → (n ≡ 0x20) ⊎ ((n ≡ 0x85) ⊎ ((n ≡ 0xA0) ⊎ ((n ≡ 0x1680) ⊎ ((n ≡ 0x202F) ⊎ ((n ≡ 0x205F) ⊎ (n ≡ 0x3000)))))) → any (eqb n) white_space ≡ true
+unfolding any
+listed_one n (inl e) = rw e refl
+listed_one n (inr (inl e)) = rw e refl
+listed_one n (inr (inr (inl e))) = rw e refl
+listed_one n (inr (inr (inr (inl e)))) = rw e refl
+listed_one n (inr (inr (inr (inr (inl e))))) = rw e refl
+listed_one n (inr (inr (inr (inr (inr (inl e)))))) = rw e refl
+listed_one n (inr (inr (inr (inr (inr (inr e)))))) = rw e refl
+
+pub unlisted : (n : ℕ) → (0x09 ≤ n → 0x0E ≤ n) → (0x2000 ≤ n → 0x200B ≤ n) → (0x2028 ≤ n → 0x202A ≤ n)
+    → (n ≡ 0x20 → ⊥) → (n ≡ 0x85 → ⊥) → (n ≡ 0xA0 → ⊥) → (n ≡ 0x1680 → ⊥) → (n ≡ 0x202F → ⊥) → (n ≡ 0x205F → ⊥) → (n ≡ 0x3000 → ⊥)
+    → any (eqb n) white_space ≡ false
+unfolding any
+unlisted n a b c d e f g h i j =
+    rw (ne_eqb n 0x09 (λ z. omega arith), ne_eqb n 0x0A (λ z. omega arith), ne_eqb n 0x0B (λ z. omega arith), ne_eqb n 0x0C (λ z. omega arith), ne_eqb n 0x0D (λ z. omega arith), ne_eqb n 0x20 d, ne_eqb n 0x85 e, ne_eqb n 0xA0 f, ne_eqb n 0x1680 g, ne_eqb n 0x2000 (λ z. omega arith), ne_eqb n 0x2001 (λ z. omega arith), ne_eqb n 0x2002 (λ z. omega arith), ne_eqb n 0x2003 (λ z. omega arith), ne_eqb n 0x2004 (λ z. omega arith), ne_eqb n 0x2005 (λ z. omega arith), ne_eqb n 0x2006 (λ z. omega arith), ne_eqb n 0x2007 (λ z. omega arith), ne_eqb n 0x2008 (λ z. omega arith), ne_eqb n 0x2009 (λ z. omega arith), ne_eqb n 0x200A (λ z. omega arith), ne_eqb n 0x2028 (λ z. omega arith), ne_eqb n 0x2029 (λ z. omega arith), ne_eqb n 0x202F h, ne_eqb n 0x205F i, ne_eqb n 0x3000 j) refl
+
+pub ruleset listed = (listed_controls, listed_spaces, listed_ends, listed_one, unlisted)
 
 abbrev byte_white : ℕ → Bool
 byte_white b = within b (0x09 to 0x0D) || eqb b 0x20
@@ -177,15 +207,17 @@ lost_low b h =
     rw (white_low b h, ascii_whole b h)
     (agree_same (byte_white b && not (is_control_code b)) (eqb b 0x20) (at_below (λ b. agree (byte_white b && not (is_control_code b)) (eqb b 0x20)) 128 b refl h))
 
--- the three answers of the test of a byte
-pub byte_below : (b : ℕ) → b < 0x09 → false ≡ is_white (b ∷ [])
-byte_below b h = sym (white_byte b ∙ rw (lt-leb 0x09 b h, ne_eqb b 0x20 (λ e. omega arith)) refl)
+-- the answers of the test of a byte
+pub byte_among : (b : ℕ) → 0x09 ≤ b → b ≤ 0x0D → is_white (b ∷ []) ≡ true
+byte_among b h l = white_byte b ∙ rw (within_intro b (0x09 to 0x0D) h l) refl
 
-pub byte_among : (b : ℕ) → 0x09 ≤ b → b < 0x0E → true ≡ is_white (b ∷ [])
-byte_among b h l = sym (white_byte b ∙ rw (within_intro b (0x09 to 0x0D) h (omega arith)) refl)
+pub byte_space : (b : ℕ) → b ≡ 0x20 → is_white (b ∷ []) ≡ true
+byte_space b e = white_byte b ∙ rw e refl
 
-pub byte_above : (b : ℕ) → 0x0E ≤ b → eqb b 0x20 ≡ is_white (b ∷ [])
-byte_above b h = sym (white_byte b ∙ rw (lt-leb b 0x0D (omega arith), and-false (leb 0x09 b)) refl)
+pub byte_other : (b : ℕ) → (0x09 ≤ b → 0x0E ≤ b) → (b ≡ 0x20 → ⊥) → is_white (b ∷ []) ≡ false
+byte_other b h n = white_byte b ∙ rw (ne_eqb b 0x20 n) (or-false (within b (0x09 to 0x0D)) ∙ ⊎_elim (λ l. within_below b (0x09 to 0x0D) l) (λ m. within_above b (0x09 to 0x0D) (h m)) (below b 0x09))
+
+pub ruleset white_bytes = (byte_among, byte_space, byte_other)
 
 -- and of the test of a character
 pub white_listed : (g : Bytes) → any (eqb (code_point g)) white_space ≡ true → well_formed g ≡ is_white g
@@ -195,6 +227,8 @@ white_listed g h = rw h (sym (and-true (well_formed g)))
 pub white_unlisted : (g : Bytes) → any (eqb (code_point g)) white_space ≡ false → false ≡ is_white g
 unfolding is_white
 white_unlisted g h = rw h (sym (and-false (well_formed g)))
+
+pub ruleset whites = (list_one, white_listed, white_unlisted)
 
 pub control_low : (g : Bytes) → code_point g < 0x20 → well_formed g ≡ is_control g
 unfolding is_control is_control_code
@@ -214,6 +248,8 @@ pub control_above : (g : Bytes) → 0x9F < code_point g → false ≡ is_control
 unfolding is_control is_control_code
 control_above g h =
     rw (le-ltb (code_point g) 0x20 (omega arith), lt-leb (code_point g) 0x9F h, and-false (leb 0x7F (code_point g))) (sym (and-false (well_formed g)))
+
+pub ruleset controls = (control_low, control_high, control_between, control_above)
 
 pub white_whole : (g : Bytes) → is_white g ≡ true → well_formed g ≡ true
 unfolding is_white
@@ -263,17 +299,37 @@ unfolding is_lost is_white well_formed
 lost_empty [] h = refl
 lost_empty (b ∷ t) h = absurd (omega arith)
 
-pub lost_unled : (g : Bytes) → lost_lead (get_or g 0 0) ≡ false → false ≡ is_lost g
-lost_unled [] h = lost_empty [] refl
-lost_unled (b ∷ t) h = sym (⊎_elim (λ l. clash (lost_leads b t l) h) (λ l. l) (bcase (is_lost (b ∷ t))))
+pub lost_none : (g : Bytes) → slice_get g 0 ≡ None → is_lost g ≡ false
+lost_none [] e = sym (lost_empty [] refl)
+lost_none (b ∷ t) e = absurd (cc)
 
-pub lead_other : (b : ℕ) → (b ≡ 0x20 → ⊥) → (b ≡ 0xC2 → ⊥) → (b ≡ 0xE1 → ⊥) → (b ≡ 0xE2 → ⊥) → (b ≡ 0xE3 → ⊥) → false ≡ lost_lead b
+pub lost_unled : (g : Bytes) (b : ℕ) → slice_get g 0 ≡ Some b → lost_lead b ≡ false → is_lost g ≡ false
+lost_unled [] b e h = absurd (cc)
+lost_unled (a ∷ t) b e h =
+    let f : a ≡ b = cc in
+    ⊎_elim (λ l. clash (lost_leads a t l) (rw f h)) (λ l. l) (bcase (is_lost (a ∷ t)))
+
+pub lead_space : (b : ℕ) → b ≡ 0x20 → lost_lead b ≡ true
 unfolding lost_lead
-lead_other b s t u v w = rw (ne_eqb b 0x20 s, ne_eqb b 0xC2 t) (sym (outside (below b 0xE1)))
-  where
-    outside : (b < 0xE1) ⊎ (0xE1 ≤ b) → within b (0xE1 to 0xE3) ≡ false
-    outside (inl l) = within_below b (0xE1 to 0xE3) l
-    outside (inr m) = within_above b (0xE1 to 0xE3) (omega arith)
+lead_space b e = rw e refl
+
+pub lead_two : (b : ℕ) → b ≡ 0xC2 → lost_lead b ≡ true
+unfolding lost_lead
+lead_two b e = rw e refl
+
+pub lead_three : (b : ℕ) → 0xE1 ≤ b → b ≤ 0xE3 → lost_lead b ≡ true
+unfolding lost_lead
+lead_three b h l = or_intro_right (eqb b 0x20) _ (or_intro_right (eqb b 0xC2) _ (within_intro b (0xE1 to 0xE3) h l))
+
+pub lead_other : (b : ℕ) → (b ≡ 0x20 → ⊥) → (b ≡ 0xC2 → ⊥) → (0xE1 ≤ b → 0xE4 ≤ b) → lost_lead b ≡ false
+unfolding lost_lead
+lead_other b s t h =
+    rw (ne_eqb b 0x20 s, ne_eqb b 0xC2 t)
+    (⊎_elim (λ l. within_below b (0xE1 to 0xE3) l) (λ m. within_above b (0xE1 to 0xE3) (h m)) (below b 0xE1))
+
+pub ruleset losts = (lost_white, lost_dark, lost_none, lost_unled)
+
+pub ruleset leads = (lead_space, lead_two, lead_three, lead_other)
 
 -- a white-space character has one byte, two or three
 pub white_short : (g : Bytes) → is_white g ≡ true → length g ≤ 3

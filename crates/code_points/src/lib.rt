@@ -3,19 +3,13 @@
 
 #![tactic(auto)]
 
+mod edges;
 pub mod ends;
 pub mod trimming;
 
 ghost use Rattle.std.specs.Prelude.{◌≡◌, [], ◌∷◌, eqb};
 ghost use Rattle.format.specs.Bytes.{any};
 ghost use Rattle.format.specs.Characters.{well_formed, code_point, white_space, is_white, is_control};
-
-// The 25 code points of Unicode White_Space.
-const WHITE_SPACE: [u32; 25] = [
-    0x0009, 0x000A, 0x000B, 0x000C, 0x000D, 0x0020, 0x0085, 0x00A0, 0x1680, 0x2000, 0x2001, 0x2002,
-    0x2003, 0x2004, 0x2005, 0x2006, 0x2007, 0x2008, 0x2009, 0x200A, 0x2028, 0x2029, 0x202F, 0x205F,
-    0x3000,
-];
 
 fn wide(b: u8) -> u32
     ensures { result ≡ b }
@@ -24,91 +18,67 @@ fn wide(b: u8) -> u32
 }
 
 // The code point of a character (Table 3-6).
+#[tactic(auto, using(crate::proofs::WhiteTests::points))]
 pub fn code_point(g: &[u8]) -> u32
     ensures { result ≡ code_point g.now }
 {
-    if g.len() == 1 {
-        return wide(g[0]);
+    match *g {
+        [a] => wide(a),
+        [a, b] => (wide(a) % 32) * 64 + wide(b) % 64,
+        [a, b, c] => (wide(a) % 16) * 4096 + ((wide(b) % 64) * 64 + wide(c) % 64),
+        [a, b, c, d] => {
+            (wide(a) % 8) * 262144 + ((wide(b) % 64) * 4096 + ((wide(c) % 64) * 64 + wide(d) % 64))
+        }
+        _ => 0,
     }
-    if g.len() == 2 {
-        return (wide(g[0]) % 32) * 64 + wide(g[1]) % 64;
-    }
-    if g.len() == 3 {
-        return (wide(g[0]) % 16) * 4096 + ((wide(g[1]) % 64) * 64 + wide(g[2]) % 64);
-    }
-    if g.len() == 4 {
-        return (wide(g[0]) % 8) * 262144
-            + ((wide(g[1]) % 64) * 4096 + ((wide(g[2]) % 64) * 64 + wide(g[3]) % 64));
-    }
-    0
 }
 
 // Whether the bytes are one well-formed character.
+#[tactic(auto, using(crate::proofs::WhiteTests::wholes))]
 pub fn is_char(g: &[u8]) -> bool
     ensures { result ≡ well_formed g.now }
 {
     let n = characters::char_len(g, 0);
-    if n == 0 {
-        return false;
-    }
-    n == g.len()
+    n != 0 && n == g.len()
 }
 
-// Whether n is in the table of white space.
-fn is_listed(table: &[u32; 25], n: u32) -> bool
-    requires { table.now ≡ white_space }
+// Whether n is one of the 25 code points of Unicode White_Space.
+#[tactic(auto, using(crate::proofs::WhiteTests::listed))]
+fn is_listed(n: u32) -> bool
     ensures { result ≡ any (eqb n) white_space }
 {
-    let mut i = 0;
-    while i < 25 {
-        if n == table[i] {
-            return true;
-        }
-        i += 1;
-    }
-    false
+    matches!(
+        n,
+        0x0009..=0x000D | 0x0020 | 0x0085 | 0x00A0 | 0x1680 | 0x2000..=0x200A | 0x2028..=0x2029 | 0x202F | 0x205F | 0x3000
+    )
 }
 
 // Whether the byte alone is a white-space character: U+0009 to U+000D or U+0020.
+#[tactic(auto, using(crate::proofs::WhiteTests::white_bytes))]
 pub fn is_white_byte(b: u8) -> bool
     ensures { result ≡ is_white (b ∷ []) }
 {
-    if b < 0x09 {
-        return false;
-    }
-    if b < 0x0E {
-        return true;
-    }
-    b == 0x20
+    matches!(b, 0x09..=0x0D | 0x20)
 }
 
 // Whether the bytes are one white-space character.
+#[tactic(auto, using(crate::proofs::WhiteTests::whites))]
 pub fn is_white(g: &[u8]) -> bool
     ensures { result ≡ is_white g.now }
 {
-    if g.len() == 1 {
-        return is_white_byte(g[0]);
+    match *g {
+        [b] => is_white_byte(b),
+        _ => is_listed(code_point(g)) && is_char(g),
     }
-    let table = WHITE_SPACE;
-    if is_listed(&table, code_point(g)) {
-        return is_char(g);
-    }
-    false
 }
 
 // Whether the bytes are one control character: U+0000 to U+001F or U+007F to U+009F.
+#[tactic(auto, using(crate::proofs::WhiteTests::controls))]
 pub fn is_control(g: &[u8]) -> bool
     ensures { result ≡ is_control g.now }
 {
-    let n = code_point(g);
-    if n < 0x20 {
-        return is_char(g);
+    match code_point(g) {
+        0x00..=0x1F | 0x7F..=0x9F => is_char(g),
+        _ => false,
     }
-    if n < 0x7F {
-        return false;
-    }
-    if 0x9F < n {
-        return false;
-    }
-    is_char(g)
 }

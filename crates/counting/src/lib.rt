@@ -45,11 +45,9 @@ pub fn put_count_lines(out: &mut [u8; 820]) -> usize
 {
     let counts = COUNTS;
     let mut to = 0;
-    let mut n = 0;
-    while n < 10 {
+    for n in 0..10 {
         let row = counts[n];
         to = put_count_line(out, to, n, row[0], row[1]);
-        n += 1;
     }
     to
 }

@@ -1,10 +1,11 @@
 // What others link: reading, writing, the calls on a message and on a header alone, what comes back, and (lookups.rt) the lookups, as C
 // functions on byte slices and numbers, each with the contract of the function that it passes on. A slice crosses as its place and its
-// length, a record as its numbers in the order in which crates/format, read_split, read, lookup_places (spots.rt) and roundtrip declare it.
+// length, a record as its numbers in the order in which answers.rt, crates/format, read_split, lookup_places (spots.rt) and roundtrip declare it.
 // What is lent to be written must overlap nothing else that is lent.
 
 #![tactic(auto)]
 
+mod answers;
 mod lookups;
 
 ghost use Rattle.std.specs.Prelude.{◌≡◌, length};
@@ -20,40 +21,42 @@ ghost use Rattle.format.specs.Lending.{head_lent, both_lent, lengths, numbers_of
 ghost use Rattle.format.specs.Runs.{Run};
 ghost use Rattle.format.specs.Demand3.{after};
 ghost use Rattle.calls_script.specs.Script.{state, calls_in};
-ghost use Rattle.read.specs.Heads.{HeadParsedWith, HeadParsed};
+ghost use Rattle.cpim.specs.Heads.{HeadParsedWith, HeadParsed};
 ghost use Rattle.roundtrip.specs.Loss.{loss_held, whole_held, whole_held_rfc, ReadsBack, ReadsBackRfc};
 
+use crate::answers::{
+    EMPTY_HEADER, EMPTY_MESSAGE, HeadAnswer, LengthAnswer, answer, head_answer, header_answer,
+    length_answer,
+};
 use format::{Answer, CpimHeader, CpimMessage, HeaderAnswer};
-use read::HeadAnswer;
-use read_split::LengthAnswer;
 use roundtrip::Loss;
 
 #[unsafe(no_mangle)]
 pub extern "C" fn cpim_parse(text: &[u8], head: &mut [u8], body: &mut [u8]) -> Answer
     ensures { Parsed text.now (both_lent empty_message head.old body.old) (both_lent result.message head.new body.new) (numbers_of result) }
 {
-    read::parse_cpim(text, head, body)
+    answer(read::parse_cpim(text, head, body), EMPTY_MESSAGE)
 }
 
 #[unsafe(no_mangle)]
 pub extern "C" fn cpim_parse_rfc(text: &[u8], head: &mut [u8], body: &mut [u8]) -> Answer
     ensures { ParsedWith read_header_rfc text.now (both_lent empty_message head.old body.old) (both_lent result.message head.new body.new) (numbers_of result) }
 {
-    read::parse_cpim_rfc(text, head, body)
+    answer(read::parse_cpim_rfc(text, head, body), EMPTY_MESSAGE)
 }
 
 #[unsafe(no_mangle)]
 pub extern "C" fn cpim_parse_head(text: &[u8], head: &mut [u8]) -> HeadAnswer
     ensures { HeadParsed text.now (head_lent empty_message head.old) (head_lent result.message head.new) result }
 {
-    read::parse_head(text, head)
+    head_answer(read::parse_head(text, head))
 }
 
 #[unsafe(no_mangle)]
 pub extern "C" fn cpim_parse_head_rfc(text: &[u8], head: &mut [u8]) -> HeadAnswer
     ensures { HeadParsedWith read_header_rfc text.now (head_lent empty_message head.old) (head_lent result.message head.new) result }
 {
-    read::parse_head_rfc(text, head)
+    head_answer(read::parse_head_rfc(text, head))
 }
 
 #[unsafe(no_mangle)]
@@ -62,7 +65,7 @@ pub extern "C" fn cpim_read_body(text: &[u8], buffer: &mut [u8]) -> LengthAnswer
     ensures length { result.length ≡ body_length_of (find_body text.now (length buffer.old)) }
     ensures written { buffer.new ≡ buffer_after text.now buffer.old }
 {
-    read_split::read_body(text, buffer)
+    length_answer(read_split::read_body(text, buffer))
 }
 
 #[unsafe(no_mangle)]
@@ -74,7 +77,7 @@ pub extern "C" fn cpim_new(
 ) -> Answer
     ensures { Made content_type.now body.now (both_lent empty_message head.old store.old) (both_lent result.message head.new store.new) (numbers_of result) }
 {
-    message::new(content_type, body, head, store)
+    answer(message::new(content_type, body, head, store), EMPTY_MESSAGE)
 }
 
 #[unsafe(no_mangle)]
@@ -86,7 +89,7 @@ pub extern "C" fn cpim_set_body(
 ) -> Answer
     ensures { Changed (set_body body.now) (both_lent m head.now store.old) (both_lent result.message head.now store.new) (numbers_of result) }
 {
-    message::set_body(m, head, store, body)
+    answer(message::set_body(m, head, store, body), m)
 }
 
 #[unsafe(no_mangle)]
@@ -98,7 +101,7 @@ pub extern "C" fn cpim_set_header(
 ) -> Answer
     ensures { Changed (set_header name.now value.now) (head_lent m head.old) (head_lent result.message head.new) (numbers_of result) }
 {
-    message::set_header(m, head, name, value)
+    answer(message::set_header(m, head, name, value), m)
 }
 
 #[unsafe(no_mangle)]
@@ -110,7 +113,7 @@ pub extern "C" fn cpim_add_header(
 ) -> Answer
     ensures { Changed (add_header name.now value.now) (head_lent m head.old) (head_lent result.message head.new) (numbers_of result) }
 {
-    message::add_header(m, head, name, value)
+    answer(message::add_header(m, head, name, value), m)
 }
 
 #[unsafe(no_mangle)]
@@ -122,7 +125,7 @@ pub extern "C" fn cpim_add_content_header(
 ) -> Answer
     ensures { Changed (add_content_header name.now value.now) (head_lent m head.old) (head_lent result.message head.new) (numbers_of result) }
 {
-    message::add_content_header(m, head, name, value)
+    answer(message::add_content_header(m, head, name, value), m)
 }
 
 #[unsafe(no_mangle)]
@@ -135,49 +138,49 @@ pub extern "C" fn cpim_add_header_obj(
 ) -> Answer
     ensures { HeaderAdded name.now (record { header = h; store = store.now }) (head_lent m head.old) (head_lent result.message head.new) (numbers_of result) }
 {
-    message_add_obj::add_header_obj(m, head, name, h, store)
+    answer(message_add_obj::add_header_obj(m, head, name, h, store), m)
 }
 
 #[unsafe(no_mangle)]
 pub extern "C" fn cpim_with_from(m: CpimMessage, head: &mut [u8], from: &[u8]) -> Answer
     ensures { Changed (with_from from.now) (head_lent m head.old) (head_lent result.message head.new) (numbers_of result) }
 {
-    message::builders::with_from(m, head, from)
+    answer(message::builders::with_from(m, head, from), m)
 }
 
 #[unsafe(no_mangle)]
 pub extern "C" fn cpim_with_to(m: CpimMessage, head: &mut [u8], to: &[u8]) -> Answer
     ensures { Changed (with_to to.now) (head_lent m head.old) (head_lent result.message head.new) (numbers_of result) }
 {
-    message::builders::with_to(m, head, to)
+    answer(message::builders::with_to(m, head, to), m)
 }
 
 #[unsafe(no_mangle)]
 pub extern "C" fn cpim_with_datetime(m: CpimMessage, head: &mut [u8], datetime: &[u8]) -> Answer
     ensures { Changed (with_datetime datetime.now) (head_lent m head.old) (head_lent result.message head.new) (numbers_of result) }
 {
-    message::builders::with_datetime(m, head, datetime)
+    answer(message::builders::with_datetime(m, head, datetime), m)
 }
 
 #[unsafe(no_mangle)]
 pub extern "C" fn cpim_with_subject(m: CpimMessage, head: &mut [u8], subject: &[u8]) -> Answer
     ensures { Changed (with_subject subject.now) (head_lent m head.old) (head_lent result.message head.new) (numbers_of result) }
 {
-    message::builders::with_subject(m, head, subject)
+    answer(message::builders::with_subject(m, head, subject), m)
 }
 
 #[unsafe(no_mangle)]
 pub extern "C" fn cpim_with_cc(m: CpimMessage, head: &mut [u8], cc: &[u8]) -> Answer
     ensures { Changed (with_cc «cc».now) (head_lent m head.old) (head_lent result.message head.new) (numbers_of result) }
 {
-    message::builders::with_cc(m, head, cc)
+    answer(message::builders::with_cc(m, head, cc), m)
 }
 
 #[unsafe(no_mangle)]
 pub extern "C" fn cpim_with_require(m: CpimMessage, head: &mut [u8], feature: &[u8]) -> Answer
     ensures { Changed (with_require feature.now) (head_lent m head.old) (head_lent result.message head.new) (numbers_of result) }
 {
-    message::builders::with_require(m, head, feature)
+    answer(message::builders::with_require(m, head, feature), m)
 }
 
 #[unsafe(no_mangle)]
@@ -189,14 +192,17 @@ pub extern "C" fn cpim_with_subject_lang(
 ) -> Answer
     ensures { Changed (with_subject_lang subject.now lang.now) (head_lent m head.old) (head_lent result.message head.new) (numbers_of result) }
 {
-    message::builders::with_subject_lang(m, head, subject, lang)
+    answer(
+        message::builders::with_subject_lang(m, head, subject, lang),
+        m,
+    )
 }
 
 #[unsafe(no_mangle)]
 pub extern "C" fn cpim_with_ns(m: CpimMessage, head: &mut [u8], prefix: &[u8], uri: &[u8]) -> Answer
     ensures { Changed (with_ns prefix.now uri.now) (head_lent m head.old) (head_lent result.message head.new) (numbers_of result) }
 {
-    message::builders::with_ns(m, head, prefix, uri)
+    answer(message::builders::with_ns(m, head, prefix, uri), m)
 }
 
 #[unsafe(no_mangle)]
@@ -208,7 +214,10 @@ pub extern "C" fn cpim_with_content_header(
 ) -> Answer
     ensures { Changed (with_content_header name.now value.now) (head_lent m head.old) (head_lent result.message head.new) (numbers_of result) }
 {
-    message::builders::with_content_header(m, head, name, value)
+    answer(
+        message::builders::with_content_header(m, head, name, value),
+        m,
+    )
 }
 
 // A script of changing calls (crates/calls_script/specs/Script.antt), run one behind another; the record is the last call's.
@@ -235,7 +244,7 @@ pub extern "C" fn cpim_to_string(
     ensures wrote { Wrote (both_lent m head.now body.now) out.old out.new (record { number = result.number; carried = result.carried }) }
     ensures length { (o : Option Message) → Held (both_lent m head.now body.now) o → result.length ≡ body_length_of (to_text o (length out.old)) }
 {
-    write::to_string(m, head, body, out)
+    length_answer(write::to_string(m, head, body, out))
 }
 
 // Whether reading its text, with room for it, gives the message held.
@@ -268,7 +277,7 @@ pub extern "C" fn cpim_loss(m: CpimMessage, head: &[u8], body: &[u8]) -> Loss
 pub extern "C" fn cpim_header_new(value: &[u8], store: &mut [u8]) -> HeaderAnswer
     ensures { MadeHeader value.now store.old (record { header = result.header; store = store.new }) (header_numbers result) }
 {
-    header::new(value, store)
+    header_answer(header::new(value, store), EMPTY_HEADER)
 }
 
 #[unsafe(no_mangle)]
@@ -280,5 +289,5 @@ pub extern "C" fn cpim_header_with_param(
 ) -> HeaderAnswer
     ensures { ParamSet name.now value.now (record { header = h; store = store.old }) (record { header = result.header; store = store.new }) (header_numbers result) }
 {
-    header::with_param(h, store, name, value)
+    header_answer(header::with_param(h, store, name, value), h)
 }

@@ -13,6 +13,7 @@ ghost use Rattle.lookup_places.specs.Spots.{PartIs, PairIs};
 ghost use Rattle.lookup_places.specs.Standing.{content_place, alone_param_place, address_place};
 ghost use Rattle.lookup_places.specs.NamedPlaces.{header_place, value_place, param_place};
 
+use crate::answers::numbers;
 use format::{CpimHeader, CpimMessage, Numbers};
 use lookup_places::spots::{Pair, Part};
 use read_split::BodyPlace;
@@ -117,7 +118,7 @@ pub extern "C" fn cpim_count_contents(m: CpimMessage, head: &[u8]) -> usize
 pub extern "C" fn cpim_places(m: CpimMessage, head: &[u8], out: &mut [usize]) -> Numbers
     ensures { Placed (head_lent m head.now) out.old out.new result }
 {
-    lookup_places::places(m, head, out)
+    numbers(lookup_places::places(m, head, out))
 }
 
 // The address in a value.
@@ -133,5 +134,5 @@ pub extern "C" fn cpim_address(value: &[u8]) -> Part
 pub extern "C" fn cpim_body_part(text: &[u8], buffer: &[u8], length: usize) -> BodyPlace
     ensures { PlaceIs text.now buffer.now length result }
 {
-    read_split::body_place(text, buffer, length)
+    read_split::body_place(text, buffer, length).unwrap_or(read_split::nowhere())
 }

@@ -3,8 +3,7 @@ use Prim.Native.Nat.{ℕ}
 use mathlib.Core.Path.{◌≡◌, refl, sym, ap, ◌∙◌}
 use mathlib.Core.Bool.{Bool, true, false, not, ◌&&◌, ◌||◌, or-true}
 use mathlib.Core.List.{[], ◌∷◌}
-use lib.Dec.{leb, ltb, eqb}
-use borrow.Author.Tests.{ltb-true, ltb-false, le-leb, lt-leb, ne_eqb}
+use lib.Dec.{eqb}
 use Rattle.format.specs.Bytes.{Bytes, all, any, has}
 use Rattle.escape.specs.Bare.{is_low, is_bare}
 
@@ -38,14 +37,3 @@ bare_kinds s =
     (any_or (eqb 34) (λ b. eqb 92 b || (eqb 0x7F b || eqb 0xC2 b)) s
     ∙ ap (λ (x : Bool). has 34 s || x)
     (any_or (eqb 92) (λ b. eqb 0x7F b || eqb 0xC2 b) s ∙ ap (λ (x : Bool). has 92 s || x) (any_or (eqb 0x7F) (eqb 0xC2) s))))
-
--- a byte that is none of the four is bare from 32 on
-pub bare_rest : (b : ℕ) → (b ≡ 34 → ⊥) → (b ≡ 92 → ⊥) → (b ≡ 0x7F → ⊥) → (b ≡ 0xC2 → ⊥) → leb 32 b ≡ is_bare b
-unfolding is_bare
-bare_rest b p q r s =
-    rw (ne_eqb 34 b (λ e. p (sym e)), ne_eqb 92 b (λ e. q (sym e)), ne_eqb 0x7F b (λ e. r (sym e)), ne_eqb 0xC2 b (λ e. s (sym e)))
-    (go (ltb b 32) refl)
-  where
-    go : (x : Bool) → ltb b 32 ≡ x → leb 32 b ≡ not (x || false)
-    go true t = lt-leb 32 b (ltb-true b 32 t)
-    go false t = le-leb 32 b (ltb-false b 32 t)

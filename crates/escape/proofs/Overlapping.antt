@@ -1,9 +1,11 @@
 -- A text tested in parts, which may overlap. Assumes nothing.
-use Prim.Native.Nat.{ℕ, ◌+◌, ◌≤◌, ◌<◌}
+use Prim.Native.Nat.{ℕ, ◌+◌, ◌≤◌}
 use mathlib.Core.Path.{◌≡◌, refl, sym, ap, ◌∙◌}
 use mathlib.Core.Bool.{Bool, true, false, ◌&&◌, and-false}
-use lib.ListN.{length, take, drop, get_or, take-append-drop}
-use lib.Seq.{take-add, take-take, drop-cons}
+use lib.ListN.{take, drop, take-append-drop}
+use lib.Seq.{take-add, take-take}
+use mathlib.Core.List.{[], ◌∷◌}
+use Rattle.std.specs.List.{list_all}
 use Rattle.format.specs.Bytes.{Bytes, all}
 use Rattle.format.proofs.Lists.{and_left, all_append}
 
@@ -36,12 +38,7 @@ module _ (p : ℕ → Bool) (s : Bytes) where
       ap (all p) (sym (take-take j i s h)) ∙ and_left (all p (take j (take i s))) (all p (drop j (take i s))) f in
       all_split j ∙ rw g refl
 
-  -- the next byte passes
-  pub all_byte : (i : ℕ) → i < length s → all p (take i s) ≡ true → p (get_or s i 0) ≡ true → all p (take (i + 1) s) ≡ true
-  unfolding all
-  all_byte i h e f = all_next i 1 e (rw (drop-cons s i 0 h, f) refl)
-
-  -- or does not
-  pub all_other : (i : ℕ) → i < length s → p (get_or s i 0) ≡ false → all p s ≡ false
-  unfolding all
-  all_other i h f = all_stop i 1 (rw (drop-cons s i 0 h, f) refl)
+pub all_list : (p : ℕ → Bool) (s : Bytes) → list_all p s ≡ all p s
+unfolding all
+all_list p [] = refl
+all_list p (b ∷ s) = ap (λ (x : Bool). p b && x) (all_list p s)

@@ -2,14 +2,14 @@
 -- Where both ends are ASCII and no space, nothing is cut off (`ascii_cuts`). Assumes nothing.
 use Prim.Native.Nat.{ℕ, ◌+◌, ◌-◌, ◌≤◌, ◌<◌}
 use mathlib.Core.Path.{◌≡◌, refl, sym, ap, subst, ◌∙◌}
-use mathlib.Core.Bool.{true, false, ◌&&◌, not}
+use mathlib.Core.Bool.{true, ◌&&◌, not}
 use mathlib.Core.Logic.{⊎_elim}
 use mathlib.Core.List.{List, [], ◌∷◌, ◌++◌, append-nil, append_assoc}
 use native.Mathlib.Omega.{arith}
 use lib.Dec.{eqb, ltb}
 use lib.ListN.{length, take, drop, get_or, length-append, length-drop, take-append-drop}
 use lib.Seq.{take-length, drop-length, drop-drop}
-use borrow.Author.Tests.{eq-eqb, ne_eqb, eqb-false, ltb-true, not-true}
+use borrow.Author.Tests.{ne_eqb, eqb-false, ltb-true, not-true}
 use Rattle.format.specs.Bytes.{Bytes, pasted, texts}
 use Rattle.format.specs.Characters.{chars, code_point, is_lost}
 use Rattle.format.specs.Escaping.{unicode_escape, escape_char, escape, end_form, last_forms, value_forms, value_text}
@@ -133,19 +133,6 @@ module _ {v : Bytes} {f e : ℕ} (c : Cuts v f e) where
       length (value_text v)
       ≡ length (lost_text (take f v)) + (length (escape (take (e - f) (drop f v))) + length (lost_text (take (length v - e) (drop e v))))
   cut-lengths = ap length cut_parts ∙ simp length-append refl
-
--- whether both ends are ASCII and no space, byte by byte
-pub ascii_none : (v : Bytes) → length v ≡ 0 → true ≡ ascii_ends v
-unfolding ascii_ends
-ascii_none v z = rw (eq-eqb (length v) 0 z) refl
-
-pub ascii_first : (v : Bytes) → (length v ≡ 0 → ⊥) → ascii_end (get_or v 0 0) ≡ false → false ≡ ascii_ends v
-unfolding ascii_ends
-ascii_first v n h = rw (ne_eqb (length v) 0 n, h) refl
-
-pub ascii_last : (v : Bytes) → (length v ≡ 0 → ⊥) → ascii_end (get_or v 0 0) ≡ true → ascii_end (get_or v (length v - 1) 0) ≡ ascii_ends v
-unfolding ascii_ends
-ascii_last v n h = rw (ne_eqb (length v) 0 n, h) refl
 
 -- an ASCII byte other than the space
 record Ascii (b : ℕ) : Type 0 where

@@ -11,7 +11,7 @@ unfoldable pub lost_text : Bytes → Bytes
 lost_text [] = []
 lost_text (b ∷ t) = unicode_escape (code_point (b ∷ t))
 
--- v is written in three parts: its first `front` bytes by lostText, those from there to the place `end` escaped, and the rest by lostText.
+-- v is written in three parts: its first `front` bytes by lost_text, those from there to the place `end` escaped, and the rest by lost_text.
 pub record Cuts (v : Bytes) (front end : ℕ) : Type 0 where
   pub ordered : front ≤ end
   pub inside : end ≤ length v

@@ -1,5 +1,6 @@
 // Document 01, "Escaping": a text as it is escaped, in two steps: the length, for which the caller lends the room, and the bytes. A header
-// value in its line, whose ends are written otherwise, is in the module `values`.
+// value in its line, whose ends are written otherwise, is in the module `values`. A place moves on by what a form takes, one byte or two: a `for`
+// over bytes would have to pass one over.
 
 #![tactic(auto)]
 

@@ -13,13 +13,11 @@ use code_points::code_point;
 use code_points::ends::{lost_back, lost_front};
 
 // How many bytes such a character is written in; no bytes stand for none.
+#[tactic(auto, using(crate::proofs::ValueParts::lost_none, crate::proofs::ValueParts::lost_six))]
 fn lost_len(g: &[u8]) -> usize
     ensures { result ≡ length (lost_text g.now) }
 {
-    if g.len() == 0 {
-        return 0;
-    }
-    6
+    if g.is_empty() { 0 } else { 6 }
 }
 
 // Writes such a character.
@@ -57,28 +55,20 @@ fn put_back(out: &mut [u8], at: usize, v: &[u8], end: usize) -> usize
 }
 
 // An ASCII character other than the space.
+#[tactic(auto, unfolding(crate::specs::Values::ascii_end))]
 fn ascii_end(b: u8) -> bool
     ensures { result ≡ ascii_end b }
 {
-    if b == 0x20 {
-        return false;
-    }
-    b < 0x80
+    b != b' ' && b < 0x80
 }
 
 // Both ends are such, or there is none: nothing is cut off then, as with most values. The functions below ask this themselves, and not in
 // `cut`, so that such a value does not cost a call of it.
+#[tactic(auto, unfolding(crate::specs::Values::ascii_ends))]
 fn ascii_ends(v: &[u8]) -> bool
     ensures { result ≡ ascii_ends v.now }
 {
-    let n = v.len();
-    if n == 0 {
-        return true;
-    }
-    if !ascii_end(v[0]) {
-        return false;
-    }
-    ascii_end(v[n - 1])
+    v.is_empty() || (ascii_end(v[0]) && ascii_end(v[v.len() - 1]))
 }
 
 // Where the ends are cut off: behind the first `front` bytes, and at the place `end`.
@@ -95,7 +85,7 @@ fn cut(v: &[u8]) -> Ends
     let front = lost_front(v);
     let back = lost_back(&v[front..]);
     Ends {
-        front: front,
+        front,
         end: v.len() - back,
     }
 }

@@ -1,5 +1,4 @@
 -- The theorems about the definitions, each resting on those above it.
-pub mod Typed
 pub mod Lists
 pub mod Steps
 pub mod Rulesets

@@ -4,6 +4,7 @@ pub mod Characters
 pub mod Escaping
 pub mod Limits
 pub mod Refusals
+pub mod Told
 pub mod Validators
 pub mod Message
 pub mod Calls

@@ -5,6 +5,10 @@
 
 #![tactic(auto)]
 
+mod refusal;
+
+pub use crate::refusal::Refusal;
+
 // What a call answers: the refusal's number, 0 where it is accepted, and the carried number.
 #[repr(C)]
 #[derive(Clone, Copy)]

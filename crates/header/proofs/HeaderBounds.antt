@@ -38,6 +38,18 @@ bounds h store e =
       params_shaped = parts.params_shaped;
     }
 
+-- the same of its numbers, for the search
+pub value_within : (h : CpimHeader) (store : Bytes) → header_holds h store ≡ true → 16 + h.valuelen ≤ h.size
+value_within h store e = (bounds h store e).value
+
+pub used_within : (h : CpimHeader) (store : Bytes) → header_holds h store ≡ true → h.size ≤ length store
+used_within h store e = (bounds h store e).used
+
+pub few_params : (h : CpimHeader) (store : Bytes) → header_holds h store ≡ true → h.params ≤ max_params
+few_params h store e = (bounds h store e).params
+
+pub ruleset held_bounds = (value_within, used_within, few_params)
+
 -- the parameter of a name, of what is held
 module _ (h : CpimHeader) (store name : Bytes) (at size many : ℕ) where
   module _ (k : LoneHeader) (held : HoldsAlone h store k) where

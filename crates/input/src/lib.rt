@@ -26,7 +26,7 @@ enum Next {
     Failed,
 }
 
-// How many bytes were read, and whether they are all of the input that there was room for.
+// How many bytes were read, and whether they are all of the input that there was room for: each says something without the other.
 #[derive(Clone, Copy)]
 pub struct Input {
     pub count: usize,
@@ -37,13 +37,7 @@ pub struct Input {
 fn passes(error: i32) -> bool
     ensures { Passes error result }
 {
-    if error == EINTR {
-        return true;
-    }
-    if error == EAGAIN {
-        return true;
-    }
-    false
+    matches!(error, EINTR | EAGAIN)
 }
 
 // The errno of an error, 0 where it has none.
@@ -57,19 +51,12 @@ fn number(error: &io::Error) -> i32
 fn after(read: &io::Result<usize>) -> Next
     ensures { Says (answered read.now) (errno read.now) result }
 {
-    let got = match read {
-        Ok(got) => *got,
-        Err(error) => {
-            if passes(number(error)) {
-                return Next::Later;
-            }
-            return Next::Failed;
-        }
-    };
-    if 0 < got {
-        return Next::More;
+    match read {
+        Ok(0) => Next::End,
+        Ok(_) => Next::More,
+        Err(error) if passes(number(error)) => Next::Later,
+        Err(_) => Next::Failed,
     }
-    Next::End
 }
 
 // Lets others run, and gives the second that it is now, 0 where the clock cannot be read.
@@ -89,40 +76,26 @@ pub fn read_whole<C: Clock, R: Read>(clock: &C, reader: &mut R, buf: &mut [u8]) 
     let mut count = 0;
     let mut second = 0;
     let mut patience: u64 = 60;
-    let mut turns: u64 = 1000000000000;
-    while turns > 0 {
-        turns -= 1;
+    for _ in 0..1000000000000u64 {
         if count == buf.len() {
-            return Input {
-                count: count,
-                whole: true,
-            };
+            return Input { count, whole: true };
         }
         let read = reader.read(&mut buf[count..]);
         let next = after(&read);
         count += read.unwrap_or(0);
         match next {
-            Next::More => {
-                patience = 60;
-            }
-            Next::End => {
-                return Input {
-                    count: count,
-                    whole: true,
-                };
-            }
-            Next::Failed => {
-                return Input {
-                    count: count,
-                    whole: false,
-                };
-            }
+            Next::More => patience = 60,
+            Next::End => return Input { count, whole: true },
+            Next::Failed => return Input {
+                count,
+                whole: false,
+            },
             Next::Later => {
                 let now = pause(clock);
                 if now != second {
                     if patience == 0 {
                         return Input {
-                            count: count,
+                            count,
                             whole: false,
                         };
                     }
@@ -133,7 +106,7 @@ pub fn read_whole<C: Clock, R: Read>(clock: &C, reader: &mut R, buf: &mut [u8]) 
         }
     }
     Input {
-        count: count,
+        count,
         whole: false,
     }
 }

@@ -1,7 +1,7 @@
 // The leaves as C functions, for the comparison with Rust and for the benchmarks. Each has the contract of what it wraps.
 #![tactic(auto)]
 
-ghost use Rattle.std.specs.Prelude.{◌≡◌, map, true, ◌+◌, ◌*◌, ◌^◌, ◌<◌, ◌≤◌, length, take, drop, replicate};
+ghost use Rattle.std.specs.Prelude.{◌≡◌, map, true, ◌+◌, ◌*◌, ◌^◌, ◌<◌, ◌≤◌, length, take, drop, replicate, is_some, unwrap_or};
 ghost use Rattle.format.specs.Bytes.{lf_lf_text, pasted, same, before, occurs, pieces, split, up_to, lower, same_letters};
 ghost use Rattle.format.specs.Characters.{is_utf8, is_white, is_control, replaced, trim};
 ghost use Rattle.format.specs.Escaping.{escape, value_text, unescape};
@@ -99,23 +99,22 @@ pub extern "C" fn leaves_put_value_text(out: &mut [u8], s: &[u8]) -> usize
 // Whether every escape can be read.
 #[unsafe(no_mangle)]
 pub extern "C" fn leaves_reads(s: &[u8]) -> bool
-    ensures { result ≡ (measured (unescape s.now)).ok }
+    ensures { result ≡ is_some (measured (unescape s.now)) }
 {
-    let m = unescape::unescaped_len(Manner::Source, s);
-    m.ok
+    unescape::unescaped_len(Manner::Source, s).is_some()
 }
 
+// The length of what the value reads as; 0 where it does not read.
 #[unsafe(no_mangle)]
 pub extern "C" fn leaves_unescaped_len(s: &[u8]) -> usize
-    ensures { result ≡ (measured (unescape s.now)).len }
+    ensures { result ≡ unwrap_or (measured (unescape s.now)) 0 }
 {
-    let m = unescape::unescaped_len(Manner::Source, s);
-    m.len
+    unescape::unescaped_len(Manner::Source, s).unwrap_or(0)
 }
 
 #[unsafe(no_mangle)]
 pub extern "C" fn leaves_unescape(out: &mut [u8], s: &[u8]) -> usize
-    requires reads { (measured (unescape s.now)).ok ≡ true }
+    requires reads { is_some (measured (unescape s.now)) ≡ true }
     requires fits { 0 + length (value_of (unescape s.now)) ≤ length out.old }
     ensures len { result ≡ 0 + length (value_of (unescape s.now)) }
     ensures bytes { out.new ≡ pasted 0 (value_of (unescape s.now)) out.old }

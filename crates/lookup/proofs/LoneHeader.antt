@@ -1,7 +1,7 @@
 -- The parts of a header alone in the store that holds it. Assumes nothing.
 use Prim.Native.Nat.{ℕ, ◌+◌, ◌-◌, ◌≤◌}
-use mathlib.Core.Path.{◌≡◌, refl, sym, ◌∙◌}
-use mathlib.Core.Bool.{Bool, true, false}
+use mathlib.Core.Path.{◌≡◌, refl, ap, ◌∙◌}
+use mathlib.Core.Bool.{true, false}
 use mathlib.Core.List.{[]}
 use mathlib.Core.Option.{Option, none, some}
 use native.Mathlib.Omega.{arith}
@@ -16,15 +16,14 @@ use Rattle.store_check.specs.Decoding.{header_in}
 use Rattle.store_check.proofs.HeldParts.{AloneParts, part_of, alone_parts}
 use Rattle.store_check.proofs.HeaderHeld.{held_alone_holds}
 use Rattle.store_check.proofs.HeldCases.{alone_held, alone_not_held}
-use Rattle.lookup_part.specs.Found.{Found}
 use Rattle.lookup_nth.specs.Listed.{Listed}
 use Rattle.lookup.specs.OfHeld.{params_held}
 
 -- Where nothing is held.
 module _ (r : CpimHeader) (store : Bytes) (h : header_holds r store ≡ false) where
-  pub no_value : {found : Bool} {s : Bytes} → Found none found s → (o : Option LoneHeader) → HeldAlone r store o → Found (alone_value o) found s
+  pub no_value : (o : Option LoneHeader) → HeldAlone r store o → none ≡ alone_value o
   unfolding alone_value
-  no_value {found} {s} f = alone_not_held (λ o. Found (alone_value o) found s) r store h f
+  no_value = alone_not_held (λ o. none ≡ alone_value o) r store h refl
 
   pub no_params : (o : Option LoneHeader) → HeldAlone r store o → Listed layout_entry (params_held o) [] 0
   unfolding texts
@@ -41,12 +40,11 @@ module _ (r : CpimHeader) (store : Bytes) (h : header_holds r store ≡ true) wh
   pub size_within : r.size ≤ length store
   size_within = parts.room
 
-  pub value_found : {found : Bool} {s : Bytes} → Found (some (take (16 + r.valuelen - 16) (drop 16 store))) found s
-      → (o : Option LoneHeader) → HeldAlone r store o → Found (alone_value o) found s
+  pub value_is : (o : Option LoneHeader) → HeldAlone r store o → some (take (16 + r.valuelen - 16) (drop 16 store)) ≡ alone_value o
   unfolding alone_value
-  value_found {found} {s} f =
-      alone_held (λ o. Found (alone_value o) found s) r store h
-      (λ k w. rw (sym (part_of 16 r.valuelen store ∙ (alone_parts r store k w).value_part_lem)) f)
+  value_is =
+      alone_held (λ o. some (take (16 + r.valuelen - 16) (drop 16 store)) ≡ alone_value o) r store h
+      (λ k w. ap (λ (b : Bytes). some b) (part_of 16 r.valuelen store ∙ (alone_parts r store k w).value_part_lem))
 
   pub params_listed : (o : Option LoneHeader) → HeldAlone r store o
       → Listed layout_entry (params_held o) (take (r.size - (16 + r.valuelen)) (drop (16 + r.valuelen) store)) r.params

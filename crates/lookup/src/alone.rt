@@ -1,55 +1,47 @@
 // Document 01, "Looking up": the value and the parameters of a header alone, as parts of the lent header store. Any record and any
 // bytes may be lent, and any n asked for.
 
+ghost use Rattle.std.specs.Prelude.{◌≡◌, option_copied, option_map};
 ghost use Rattle.std.proofs.Math.Option.{Option};
 ghost use Rattle.format.specs.Message.{LoneHeader};
 ghost use Rattle.format.specs.Layout.{layout_entry, HeldAlone};
-ghost use Rattle.format.specs.LookingUp.{mapped, alone_value, alone_param};
-ghost use Rattle.lookup_part.specs.Found.{Found};
-ghost use Rattle.lookup_nth.specs.Listed.{Listed};
+ghost use Rattle.format.specs.LookingUp.{alone_value, alone_param};
+ghost use Rattle.format.specs.Told.{given};
+ghost use Rattle.lookup_nth.specs.Listed.{Listed, entry_of};
 ghost use Rattle.lookup.specs.OfHeld.{params_held};
 
 use format::CpimHeader;
-use lookup_nth::{nth_name, nth_value};
-use lookup_part::{absent, part};
+use lookup_nth::{Entries, Entry};
 use store_check::header_holds;
 
-pub fn value<'a>(h: CpimHeader, store: &'a [u8], found: &mut bool) -> &'a [u8]
-    ensures { (o : Option LoneHeader) → HeldAlone h store.now o → Found (alone_value o) found.new result.now }
+pub fn value(h: CpimHeader, store: &[u8]) -> Option<&[u8]>
+    ensures { (o : Option LoneHeader) → HeldAlone h store.now o → given (option_copied result) ≡ alone_value o }
 {
     if !header_holds(h, store) {
-        return absent(store, found);
+        return None;
     }
-    part(store, 16, 16 + h.valuelen, found)
+    let to = 16 + h.valuelen;
+    Some(&store[16..to])
 }
 
-// The bytes of the parameters, and how many they are; none where no header is held.
-fn params<'a>(h: CpimHeader, store: &'a [u8], many: &mut usize) -> &'a [u8]
-    ensures { (o : Option LoneHeader) → HeldAlone h store.now o → Listed layout_entry (params_held o) result.now many.new }
+// The parameters; none where no header is held.
+fn params(h: CpimHeader, store: &[u8]) -> Entries<'_>
+    ensures { (o : Option LoneHeader) → HeldAlone h store.now o → Listed layout_entry (params_held o) result.bytes.now result.count }
 {
-    *many = 0;
     if !header_holds(h, store) {
-        return &store[..0];
+        return Entries::NONE;
     }
-    *many = h.params;
     let from = 16 + h.valuelen;
     let to = h.size;
-    &store[from..to]
+    Entries {
+        bytes: &store[from..to],
+        count: h.params,
+    }
 }
 
-// Name and value of the n-th parameter.
-pub fn param_name<'a>(h: CpimHeader, store: &'a [u8], n: usize, found: &mut bool) -> &'a [u8]
-    ensures { (o : Option LoneHeader) → HeldAlone h store.now o → Found (mapped (λ e. e.name) (alone_param o n)) found.new result.now }
+// The n-th parameter.
+pub fn param(h: CpimHeader, store: &[u8], n: usize) -> Option<Entry<'_>>
+    ensures { (o : Option LoneHeader) → HeldAlone h store.now o → given (option_map entry_of result) ≡ alone_param o n }
 {
-    let mut many = 0;
-    let entries = params(h, store, &mut many);
-    nth_name(entries, many, n, found)
-}
-
-pub fn param_value<'a>(h: CpimHeader, store: &'a [u8], n: usize, found: &mut bool) -> &'a [u8]
-    ensures { (o : Option LoneHeader) → HeldAlone h store.now o → Found (mapped (λ e. e.value) (alone_param o n)) found.new result.now }
-{
-    let mut many = 0;
-    let entries = params(h, store, &mut many);
-    nth_value(entries, many, n, found)
+    params(h, store).nth(n)
 }

@@ -9,17 +9,14 @@ ghost use Rattle.format.specs.Lending.{head_lent};
 ghost use Rattle.format.specs.LookingUp.{count_headers, count_params, count_contents};
 
 use format::CpimMessage;
-use lookup_nth::count_all;
+use lookup_nth::Entries;
 use store_check::message_holds;
 
 // How many headers there are, parameters of all headers, and content headers; 0 where no message is held.
 pub fn count_headers(m: CpimMessage, head: &[u8]) -> usize
     ensures { (o : Option Message) → Held (head_lent m head.now) o → result ≡ count_headers o }
 {
-    if !message_holds(m, head) {
-        return 0;
-    }
-    m.headers
+    if message_holds(m, head) { m.headers } else { 0 }
 }
 
 pub fn count_params(m: CpimMessage, head: &[u8]) -> usize
@@ -29,14 +26,19 @@ pub fn count_params(m: CpimMessage, head: &[u8]) -> usize
         return 0;
     }
     let to = 256 + m.headerlen;
-    count_all(&head[256..to], m.headers)
+    let headers = Entries {
+        bytes: &head[256..to],
+        count: m.headers,
+    };
+    headers.count_params()
 }
 
 pub fn count_contents(m: CpimMessage, head: &[u8]) -> usize
     ensures { (o : Option Message) → Held (head_lent m head.now) o → result ≡ count_contents o }
 {
-    if !message_holds(m, head) {
-        return 0;
+    if message_holds(m, head) {
+        m.contents
+    } else {
+        0
     }
-    m.contents
 }

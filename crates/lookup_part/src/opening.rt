@@ -2,12 +2,14 @@
 
 ghost use Rattle.std.specs.Prelude.{◌≡◌};
 ghost use Rattle.format.specs.LookingUp.{opens, quoting_behind};
-ghost use Rattle.lookup_part.specs.AddressSpan.{opening_place};
+ghost use Rattle.format.specs.Told.{given};
+ghost use Rattle.lookup_part.specs.AddressSpan.{opening_at};
 
 use format::Quoting;
 use octets::finding::find_byte;
 
 // Whether a byte, by where it stands, is a `<` outside quoted strings.
+#[tactic(auto, unfolding(format::specs::LookingUp::opens))]
 fn opens(at: Quoting, b: u8) -> bool
     ensures { result ≡ opens at b }
 {
@@ -19,56 +21,43 @@ fn opens(at: Quoting, b: u8) -> bool
 }
 
 // Where the byte behind b stands: inside quotes a backslash covers it.
+#[tactic(auto, unfolding(format::specs::LookingUp::quoting_behind))]
 fn quoting_behind(at: Quoting, b: u8) -> Quoting
     ensures { result ≡ quoting_behind at b }
 {
-    match at {
-        Quoting::Outside => {
-            if b != b'"' {
-                return Quoting::Outside;
-            }
-            Quoting::Inside
-        }
-        Quoting::Inside => {
-            if b == b'\\' {
-                return Quoting::Covered;
-            }
-            if b == b'"' {
-                return Quoting::Outside;
-            }
-            Quoting::Inside
-        }
-        Quoting::Covered => Quoting::Inside,
+    match (at, b) {
+        (Quoting::Outside, b'"') => Quoting::Inside,
+        (Quoting::Inside, b'\\') => Quoting::Covered,
+        (Quoting::Inside, b'"') => Quoting::Outside,
+        (Quoting::Covered, _) => Quoting::Inside,
+        _ => at,
     }
 }
 
-// The place of that `<`, or the length of the value where there is none: byte by byte.
-fn opening_plain(value: &[u8]) -> usize
-    ensures { result ≡ opening_place value.now }
+// The place of that `<`, if there is one: byte by byte.
+fn opening_plain(value: &[u8]) -> Option<usize>
+    ensures { given result ≡ opening_at value.now }
 {
     let mut at = Quoting::Outside;
-    let mut i = 0;
-    while i < value.len() {
-        let b = value[i];
+    for (i, &b) in value.iter().enumerate() {
         if opens(at, b) {
-            return i;
+            return Some(i);
         }
         at = quoting_behind(at, b);
-        i += 1;
     }
-    i
+    None
 }
 
 // The same: without a quote before it, the first `<` of all opens.
-pub fn opening(value: &[u8]) -> usize
-    ensures { result ≡ opening_place value.now }
+pub fn opening(value: &[u8]) -> Option<usize>
+    ensures { given result ≡ opening_at value.now }
 {
     let first = find_byte(value, b'<');
     if first == value.len() {
-        return first;
+        return None;
     }
     if find_byte(&value[..first], b'"') == first {
-        return first;
+        return Some(first);
     }
     opening_plain(value)
 }

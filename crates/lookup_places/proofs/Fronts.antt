@@ -5,11 +5,11 @@ use mathlib.Core.Path.{◌≡◌, refl, sym, ◌∙◌}
 use mathlib.Core.Bool.{true}
 use mathlib.Core.List.{List, [], ◌∷◌, ◌++◌}
 use native.Mathlib.Omega.{arith}
-use lib.ListN.{length, drop, set, length-drop}
+use lib.ListN.{length, drop, length-drop}
 use lib.Seq.{drop-drop}
 use Rattle.format.specs.Bytes.{Bytes, pasted, over}
 use Rattle.format.proofs.Rulesets.{tests}
-use Rattle.octets.proofs.Paste.{pasted_start, pasted_more, stores_three}
+use Rattle.octets.proofs.Paste.{pasted_start}
 use Rattle.octets.proofs.Written.{Written, written_none, written-more, written_all, written_length}
 use Rattle.store_entries.specs.Stored.{name_length, value_length, param_count}
 use Rattle.store_entries.proofs.Sequences.{suc_less}
@@ -38,10 +38,6 @@ rows_length : (n at : ℕ) (s : Bytes) → length (rows_in n at s) ≡ 4 * n
 unfolding rows_in
 rows_length zero at s = refl
 rows_length (suc n) at s = omega (arith, rows_length n (at + front_in s) (drop (front_in s) s))
-
-pub stores_four : (d : List ℕ) (k a b c e : ℕ) → k + 4 ≤ length d
-    → set (set (set (set d k a) (k + 1) b) (k + 2) c) (k + 3) e ≡ pasted k (a ∷ b ∷ c ∷ e ∷ []) d
-stores_four d k a b c e h = rw (stores_three d k a b c (omega arith)) (pasted_more k (a ∷ b ∷ c ∷ []) d e (omega arith))
 
 -- i of so many rows have been written over d, which gave out; the next entry stands at the place at
 pub record Rowed (s : Bytes) (d out : List ℕ) (rows at i : ℕ) : Type 0 where

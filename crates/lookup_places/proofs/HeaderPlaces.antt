@@ -1,7 +1,7 @@
 -- A header where it stands: its numbers, its value, its parameters as a list laid out. Assumes nothing.
 use Prim.Native.Nat.{ℕ, ◌+◌, ◌-◌, ◌≤◌}
 use mathlib.Core.Path.{◌≡◌, sym, ap, ◌∙◌, subst}
-use mathlib.Core.Bool.{true, false}
+use mathlib.Core.Bool.{true}
 use mathlib.Core.List.{List, ◌++◌}
 use mathlib.Core.Option.{Option, none, some}
 use native.Mathlib.Omega.{arith}
@@ -11,7 +11,6 @@ use Rattle.format.specs.Bytes.{Bytes, texts}
 use Rattle.format.specs.Message.{Entry, Header}
 use Rattle.format.specs.Layout.{layout_entry}
 use Rattle.format.specs.LookingUp.{nth, mapped, of_held}
-use Rattle.format.proofs.Lists.{clash}
 use Rattle.store_entries.specs.Stored.{stored_bytes, stored_header, name_length, value_length, param_count, tail_length, size_in, name_in, value_in, tail_in, stored_in, shaped_all}
 use Rattle.store_entries.proofs.EntryShape.{Shape}
 use Rattle.store_entries.proofs.EntryRead.{name_length_lem, value_length_lem, read_name, read_value_lem, read_tail, read_stored, read_shape}
@@ -22,7 +21,6 @@ use Rattle.lookup_places.specs.Spots.{no_part, no_pair, PartIs, PairIs, entry_pl
 use Rattle.lookup_places.specs.declared.spots.Pair.{Pair}
 use Rattle.lookup_places.proofs.EntryPlaces.{part_there, part_absent, pair_none}
 use Rattle.lookup_places.specs.NamedPlaces.{value_place, param_place, HeaderAt, SpotIs}
-use Rattle.lookup_places.specs.declared.by_name.Spot.{Spot}
 
 -- where the parameters of the entry at a place begin, and where they end
 abbrev pub from : Bytes → ℕ → ℕ
@@ -92,47 +90,52 @@ module _ (s : Bytes) (at : ℕ) (h : Header) (w : HeaderAt s at h) where
   unfolding param_place
   param_pair n p f = rw (sym name_long, sym value_long) (f h.params params_listed)
 
--- What is known of a spot that is answered.
-module _ (s : Bytes) (place : ℕ) (r : Spot) where
-  pub spot_size : (o : Option Header) → SpotIs s place o r → r.found ≡ true
-      → r.at + (16 + (name_length (drop r.at s) + (value_length (drop r.at s) + tail_length (drop r.at s)))) ≤ length s
-  spot_size none e f = clash f (ap (λ x. x.found) e)
-  spot_size (some h) w f = rw (ap (λ x. x.at) w.0) (size_at s place h w.1)
-
-  pub spot_shaped : (o : Option Header) → SpotIs s place o r → r.found ≡ true
-      → shaped_all (param_count (drop r.at s)) (take (to s r.at - from s r.at) (drop (from s r.at) s)) ≡ true
-  spot_shaped none e f = clash f (ap (λ x. x.found) e)
-  spot_shaped (some h) w f = rw (ap (λ x. x.at) w.0) (entries_shaped h.params _ _ (params_listed s place h w.1))
-
-  pub spot_no_value : (o : Option Header) → SpotIs s place o r → r.found ≡ false → PartIs s (value_place place o) (mapped (λ h. h.value) o) no_part
+-- What is known where no header is found.
+module _ (s : Bytes) (place : ℕ) where
+  pub spot_no_value : (o : Option Header) → SpotIs s place o none → PartIs s (value_place place o) (mapped (λ h. h.value) o) no_part
   unfolding value_place
-  spot_no_value none e f = part_absent s 0
-  spot_no_value (some h) w f = clash (ap (λ x. x.found) w.0) f
+  spot_no_value none e = part_absent s 0
+  spot_no_value (some h) w = cc (w.0)
 
-  pub spot_value : (o : Option Header) → SpotIs s place o r → r.found ≡ true → (name value : ℕ)
-      → name ≡ name_length (drop r.at s) → value ≡ value_length (drop r.at s)
-      → PartIs s (value_place place o) (mapped (λ h. h.value) o) (record { found = true; start = r.at + (16 + name); length = value })
-  unfolding value_place
-  spot_value none e f name value a b = clash f (ap (λ x. x.found) e)
-  spot_value (some h) w f name value a b = rw (a, b, ap (λ x. x.at) w.0) (value_part_lem s place h w.1)
-
-  pub spot_no_param : (n : ℕ) (o : Option Header) → SpotIs s place o r → r.found ≡ false → PairIs s (param_place place o n) (of_held o (λ h. nth n h.params)) no_pair
+  pub spot_no_param : (n : ℕ) (o : Option Header) → SpotIs s place o none → PairIs s (param_place place o n) (of_held o (λ h. nth n h.params)) no_pair
   unfolding param_place
-  spot_no_param n none e f = pair_none s 0
-  spot_no_param n (some h) w f = clash (ap (λ x. x.found) w.0) f
+  spot_no_param n none e = pair_none s 0
+  spot_no_param n (some h) w = cc (w.0)
+
+-- What is known of one that is found at a place.
+module _ (s : Bytes) (place at : ℕ) where
+  spot_at : (h : Header) → SpotIs s place (some h) (some at) → at ≡ place
+  spot_at h w = cc (w.0)
+
+  pub spot_size : (o : Option Header) → SpotIs s place o (some at)
+      → at + (16 + (name_length (drop at s) + (value_length (drop at s) + tail_length (drop at s)))) ≤ length s
+  spot_size none e = cc
+  spot_size (some h) w = rw (spot_at h w) (size_at s place h w.1)
+
+  pub spot_shaped : (o : Option Header) → SpotIs s place o (some at)
+      → shaped_all (param_count (drop at s)) (take (to s at - from s at) (drop (from s at) s)) ≡ true
+  spot_shaped none e = cc
+  spot_shaped (some h) w = rw (spot_at h w) (entries_shaped h.params _ _ (params_listed s place h w.1))
+
+  pub spot_value : (o : Option Header) → SpotIs s place o (some at) → (name value : ℕ)
+      → name ≡ name_length (drop at s) → value ≡ value_length (drop at s)
+      → PartIs s (value_place place o) (mapped (λ h. h.value) o) (record { found = true; start = at + (16 + name); length = value })
+  unfolding value_place
+  spot_value none e name value a b = cc
+  spot_value (some h) w name value a b = rw (a, b, spot_at h w) (value_part_lem s place h w.1)
 
   -- as `nth_pair` answers of its parameters
-  pub spot_param : (n : ℕ) (o : Option Header) → SpotIs s place o r → r.found ≡ true → (p : Pair) (name value tail count : ℕ)
-      → name ≡ name_length (drop r.at s) → value ≡ value_length (drop r.at s) → tail ≡ tail_length (drop r.at s) → count ≡ param_count (drop r.at s)
-      → ((es : List Entry) → Listed layout_entry es (take (r.at + (16 + (name + value)) + tail - (r.at + (16 + (name + value)))) (drop (r.at + (16 + (name + value))) s)) count
-      → PairIs s (entry_place (r.at + (16 + (name + value))) es n) (nth n es) p)
+  pub spot_param : (n : ℕ) (o : Option Header) → SpotIs s place o (some at) → (p : Pair) (name value tail count : ℕ)
+      → name ≡ name_length (drop at s) → value ≡ value_length (drop at s) → tail ≡ tail_length (drop at s) → count ≡ param_count (drop at s)
+      → ((es : List Entry) → Listed layout_entry es (take (at + (16 + (name + value)) + tail - (at + (16 + (name + value)))) (drop (at + (16 + (name + value))) s)) count
+      → PairIs s (entry_place (at + (16 + (name + value))) es n) (nth n es) p)
       → PairIs s (param_place place o n) (of_held o (λ h. nth n h.params)) p
-  spot_param n none e f p name value tail count a b c d g = clash f (ap (λ x. x.found) e)
-  spot_param n (some h) w f p name value tail count a b c d g =
-      let i = ap (λ x. x.at) w.0 in
+  spot_param n none e p name value tail count a b c d g = cc
+  spot_param n (some h) w p name value tail count a b c d g =
+      let i = spot_at h w in
       let Asks : ℕ → ℕ → ℕ → ℕ → ℕ → Type 0 = λ at name value tail count. (es : List Entry)
       → Listed layout_entry es (take (at + (16 + (name + value)) + tail - (at + (16 + (name + value)))) (drop (at + (16 + (name + value))) s)) count
       → PairIs s (entry_place (at + (16 + (name + value))) es n) (nth n es) p in
-      let same : Asks r.at name value tail count ≡ Asks place (name_length (drop place s)) (value_length (drop place s)) (tail_length (drop place s)) (param_count (drop place s)) =
+      let same : Asks at name value tail count ≡ Asks place (name_length (drop place s)) (value_length (drop place s)) (tail_length (drop place s)) (param_count (drop place s)) =
       λ j. Asks (i j) ((a ∙ ap (λ (k : ℕ). name_length (drop k s)) i) j) ((b ∙ ap (λ (k : ℕ). value_length (drop k s)) i) j) ((c ∙ ap (λ (k : ℕ). tail_length (drop k s)) i) j) ((d ∙ ap (λ (k : ℕ). param_count (drop k s)) i) j) in
       param_pair s place h w.1 n p (subst (λ (T : Type 0). T) same g)

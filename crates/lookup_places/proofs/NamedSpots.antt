@@ -27,20 +27,16 @@ use Rattle.lookup_named.specs.HeadersNamed.{headers_named}
 use Rattle.lookup_named.proofs.Grouping.{named_listed}
 use Rattle.lookup_places.proofs.EntryPlaces.{listed_there, passed_as}
 use Rattle.lookup_places.specs.NamedPlaces.{header_place, SpotIs}
-use Rattle.lookup_places.specs.declared.by_name.Spot.{Spot}
-
-abbrev no_spot : Spot
-no_spot = record { found = false; at = 0 }
 
 module _ (m : CpimMessage) (head name : Bytes) (n : ℕ) where
-  abbrev Says : Spot → Option Message → Type 0
+  abbrev Says : Option ℕ → Option Message → Type 0
   Says r o = SpotIs head (header_place o name n) (nth_header o name n) r
 
-  pub no_message : message_holds m head ≡ false → (o : Option Message) → Held (head_lent m head) o → Says no_spot o
+  pub no_message : message_holds m head ≡ false → (o : Option Message) → Held (head_lent m head) o → Says none o
   unfolding nth_header
-  no_message h = not_held m head (Says no_spot) none h refl
+  no_message h = not_held m head (Says none) none h refl
 
-  pub no_name : is_utf8 name ≡ false → (o : Option Message) → Says no_spot o
+  pub no_name : is_utf8 name ≡ false → (o : Option Message) → Says none o
   unfolding nth_header
   no_name u none = refl
   no_name u (some k) = rw u refl
@@ -67,21 +63,21 @@ module _ (m : CpimMessage) (head name : Bytes) (n : ℕ) where
         let held = held_total (head_lent m head) in
         headers_shaped (headers_named held.0 name) _ _ (listed held.0 held.1)
 
-    pub too_few : many ≤ n → (o : Option Message) → Held (head_lent m head) o → Says no_spot o
+    pub too_few : many ≤ n → (o : Option Message) → Held (head_lent m head) o → Says none o
     too_few few o held =
-        head_held m head (λ o. Listed layout_header (headers_named o name) (take (256 + at + size - (256 + at)) (drop (256 + at) head)) many → Says no_spot o) h
+        head_held m head (λ o. Listed layout_header (headers_named o name) (take (256 + at + size - (256 + at)) (drop (256 + at) head)) many → Says none o) h
         (λ k w l. rw (nth_is u k, nth_none n (only name_of name k.headers) (omega (arith, l.entries, ap length (named_is u k)))) refl) o held (listed o held)
 
     pub nth_found : n < many → (passed : ℕ) → passed ≡ total stored_size (entries_in n (drop 0 (take (256 + at + size - (256 + at)) (drop (256 + at) head))))
-        → (o : Option Message) → Held (head_lent m head) o → Says (record { found = true; at = 256 + at + passed }) o
+        → (o : Option Message) → Held (head_lent m head) o → Says (some (256 + at + passed)) o
     unfolding header_place
     nth_found more passed e o held =
-        head_held m head (λ o. Listed layout_header (headers_named o name) (take (256 + at + size - (256 + at)) (drop (256 + at) head)) many → Says (record { found = true; at = 256 + at + passed }) o) h
+        head_held m head (λ o. Listed layout_header (headers_named o name) (take (256 + at + size - (256 + at)) (drop (256 + at) head)) many → Says (some (256 + at + passed)) o) h
         (λ k w l. one k w l) o held (listed o held)
       where
         one : (k : Message) → Holds (head_lent m head) k
             → Listed layout_header (headers_named (some k) name) (take (256 + at + size - (256 + at)) (drop (256 + at) head)) many
-            → Says (record { found = true; at = 256 + at + passed }) (some k)
+            → Says (some (256 + at + passed)) (some k)
         one k w l =
             let hs = only name_of name k.headers in
             let part = take (256 + at + size - (256 + at)) (drop (256 + at) head) in
@@ -90,6 +86,6 @@ module _ (m : CpimMessage) (head name : Bytes) (n : ℕ) where
             let t = listed_there layout_header need_header layout_header_length hs head (256 + at) (256 + at + size) n these.bytes (omega (arith, these.entries)) in
             let place : header_place (some k) name n ≡ 256 + at + total need_header (take n hs) = ap (λ (j : ℕ). 256 + j + total need_header (take n hs)) (sym (found k w).place) in
             rw (nth_is u k, t.is) (
-              λ i. record { found = true; at = (ap (λ (j : ℕ). 256 + at + j) p ∙ sym place) i },
+              λ i. some ((ap (λ (j : ℕ). 256 + at + j) p ∙ sym place) i),
               record { more = t.more; bytes = ap (λ (j : ℕ). drop j head) place ∙ t.bytes },
             )

@@ -1,6 +1,6 @@
 -- The ways out of `places`: nothing is held, the output is too short, or the rows are written. Of a message that is held the rows are
 -- as many, and the ones, that are read from the store. Assumes nothing.
-use Prim.Native.Nat.{ℕ, ◌*◌, ◌^◌, ◌≤◌, ◌<◌}
+use Prim.Native.Nat.{ℕ, ◌*◌, ◌≤◌, ◌<◌}
 use mathlib.Core.Path.{◌≡◌, refl, sym, ap, ◌∙◌}
 use mathlib.Core.Bool.{true, false}
 use mathlib.Core.List.{List}
@@ -9,7 +9,7 @@ use native.Mathlib.Omega.{arith}
 use lib.ListN.{length, drop, replicate, length-drop}
 use borrow.Author.Tests.{lt-ltb, le-ltb}
 use Rattle.format.specs.Bytes.{Bytes, over}
-use Rattle.format.specs.Refusals.{numbers, table, refuse_if, ◌>>◌}
+use Rattle.format.specs.Refusals.{numbers, table, no_room, too_short, refuse_if, ◌>>◌, ◌carrying◌}
 use Rattle.format.specs.Message.{Message}
 use Rattle.format.specs.Calls.{enough}
 use Rattle.format.specs.Layout.{Held, Holds}
@@ -17,7 +17,6 @@ use Rattle.format.specs.Lending.{head_lent}
 use Rattle.format.specs.Writing.{writes}
 use Rattle.format.specs.declared.Numbers.{Numbers}
 use Rattle.format.specs.declared.CpimMessage.{CpimMessage}
-use Rattle.format.proofs.Answers.{carried}
 use Rattle.store_check.specs.Holding.{message_holds}
 use Rattle.store_check.specs.Decoding.{message_in}
 use Rattle.store_check.proofs.HeldParts.{part_of, held_parts}
@@ -70,31 +69,25 @@ module _ (m : CpimMessage) (head : Bytes) (out : List ℕ) where
       → Placed (head_lent m head) out written n
   placed written n f = record { answered = λ o h. (f o h).0; left = λ o h. (f o h).1 }
 
-  abbrev unheld : Numbers
-  unheld = record { number = 25; carried = 0 }
-
-  pub placed_unheld : message_holds m head ≡ false → Placed (head_lent m head) out out unheld
-  unfolding places_of numbers table writes
-  placed_unheld h = placed out unheld (not_held m head (Says out out unheld) none h (refl, refl))
+  pub placed_unheld : message_holds m head ≡ false → Placed (head_lent m head) out out (table (no_room 0))
+  unfolding places_of numbers writes
+  placed_unheld h = placed out (table (no_room 0)) (not_held m head (Says out out (table (no_room 0))) none h (refl, refl))
 
   module _ (h : message_holds m head ≡ true) where
     -- 26
-    pub placed_full : (n : ℕ) → n ≡ 4 * rows_held m head → length out < n → 8 * n < 2 ^ 64
-        → Placed (head_lent m head) out out (record { number = 26; carried = 8 * n })
-    unfolding places_of number_bytes enough refuse_if ◌>>◌ numbers table writes
-    placed_full n e short small =
-        let answer : Numbers = record { number = 26; carried = 8 * n } in
-        placed out answer
-        (head_held m head (Says out out answer) h
-        (λ k held. rw (rows_many m head k held, sym e, lt-ltb (8 * length out) (8 * n) (omega arith)) (sym (carried 26 (8 * n) small), refl)))
+    pub placed_full : (n : ℕ) → n ≡ 4 * rows_held m head → length out < n → Placed (head_lent m head) out out (table (too_short (8 * n)))
+    unfolding places_of number_bytes enough refuse_if ◌>>◌ numbers writes
+    placed_full n e short =
+        placed out (table (too_short (8 * n)))
+        (head_held m head (Says out out (table (too_short (8 * n)))) h
+        (λ k held. rw (rows_many m head k held, sym e, lt-ltb (8 * length out) (8 * n) (omega arith)) (refl, refl)))
 
     pub placed_rows : (written : List ℕ) → 4 * rows_held m head ≤ length out → written ≡ over (rows_in (rows_held m head) 256 (drop 256 head)) out
-        → Placed (head_lent m head) out written (record { number = 0; carried = 0 })
+        → Placed (head_lent m head) out written (0 carrying 0)
     unfolding places_of number_bytes enough refuse_if ◌>>◌ numbers writes
     placed_rows written room e =
-        let answer : Numbers = record { number = 0; carried = 0 } in
-        placed written answer
-        (head_held m head (Says out written answer) h
+        placed written (0 carrying 0)
+        (head_held m head (Says out written (0 carrying 0)) h
         (λ k held.
         let fits : 8 * length (rows_of k) ≤ 8 * length out = omega (arith, rows_many m head k held) in
         rw (le-ltb (8 * length out) (8 * length (rows_of k)) fits) (refl, e ∙ ap (λ (x : List ℕ). over x out) (rows_read m head k held))))

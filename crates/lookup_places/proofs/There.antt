@@ -1,6 +1,6 @@
 -- The parts of what is held where they stand, by the test that was made. Assumes nothing.
 use Prim.Native.Nat.{ℕ, ◌+◌, ◌-◌, ◌≤◌, ◌<◌}
-use mathlib.Core.Path.{◌≡◌, sym, ap, ◌∙◌}
+use mathlib.Core.Path.{◌≡◌, sym}
 use mathlib.Core.Bool.{true, false}
 use mathlib.Core.List.{List}
 use mathlib.Core.Option.{Option, none, some}
@@ -54,17 +54,15 @@ module _ (m : CpimMessage) (head : Bytes) (h : message_holds m head ≡ true) wh
   pub type_there : (o : Option Message) → Held (head_lent m head) o → PartIs head 0 (get_type o) (record { found = true; start = 0; length = m.typelen })
   unfolding get_type
   type_there =
-      let e : m.typelen - 0 ≡ m.typelen = omega arith in
       head_held m head (λ o. PartIs head 0 (get_type o) (record { found = true; start = 0; length = m.typelen })) h
-      (λ k held. part_there head 0 m.typelen k.type (omega (arith, type_within m head h)) (ap (λ (n : ℕ). take n head) (sym e) ∙ type_at m head k held))
+      (λ k held. part_there head 0 m.typelen k.type (omega (arith, type_within m head h)) (type_at m head k held))
 
   pub body_there : (store : Bytes) → m.bodylen ≤ length store → (o : Option Message) → Held (both_lent m head store) o
       → PartIs store 0 (get_body o) (record { found = true; start = 0; length = m.bodylen })
   unfolding get_body
   body_there store fits =
-      let e : m.bodylen - 0 ≡ m.bodylen = omega arith in
       body_held m head (λ o. PartIs store 0 (get_body o) (record { found = true; start = 0; length = m.bodylen })) store h fits
-      (λ k held. part_there store 0 m.bodylen k.body (omega arith) (ap (λ (n : ℕ). take n store) (sym e) ∙ body_at m head store k held))
+      (λ k held. part_there store 0 m.bodylen k.body (omega arith) (body_at m head store k held))
 
   pub contents_within : 256 + m.headerlen + m.contentlen ≤ length head
   contents_within = omega (arith, used_within m head h)

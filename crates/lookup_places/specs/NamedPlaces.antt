@@ -1,12 +1,11 @@
 -- Where the headers of a name, their values and parameters begin, by the layout of crates/format/specs/Layout.antt. Assumes nothing.
-use Rattle.std.specs.Prelude.{ℕ, ◌+◌, ◌≡◌, true, false, ◌++◌, length, take, drop}
+use Rattle.std.specs.Prelude.{ℕ, ◌+◌, ◌≡◌, ◌++◌, length, take, drop}
 use Rattle.std.proofs.Math.Option.{Option, none, some}
 use Rattle.format.specs.Bytes.{Bytes, total}
 use Rattle.format.specs.Message.{Header, Message, name_of, only, need_header}
 use Rattle.format.specs.Layout.{layout_header}
 use Rattle.store_entries.specs.Groups.{low}
 use Rattle.lookup_places.specs.Spots.{entry_place}
-use Rattle.lookup_places.specs.declared.by_name.Spot.{Spot}
 
 -- the n-th header of a name: behind the headers of names before it, and those of the name before it
 unfoldable pub header_place : Option Message → Bytes → ℕ → ℕ
@@ -29,6 +28,6 @@ pub record HeaderAt (s : Bytes) (at : ℕ) (h : Header) : Type 0 where
   pub bytes : drop at s ≡ layout_header h ++ more
 
 -- what is answered where a header is looked for that stands at a place
-abbrev pub SpotIs : Bytes → ℕ → Option Header → Spot → Type 0
-SpotIs s at none r = r ≡ record { found = false; at = 0 }
-SpotIs s at (some h) r = (r ≡ record { found = true; at = at }) × HeaderAt s at h
+abbrev pub SpotIs : Bytes → ℕ → Option Header → Option ℕ → Type 0
+SpotIs s at none r = r ≡ none
+SpotIs s at (some h) r = (r ≡ some at) × HeaderAt s at h

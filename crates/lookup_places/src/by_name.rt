@@ -5,6 +5,7 @@ ghost use Rattle.format.specs.Message.{Message};
 ghost use Rattle.format.specs.Layout.{Held};
 ghost use Rattle.format.specs.Lending.{head_lent};
 ghost use Rattle.format.specs.LookingUp.{nth_header, get_header, get_header_value, get_param};
+ghost use Rattle.format.specs.Told.{given};
 ghost use Rattle.lookup_places.specs.Spots.{PartIs, PairIs};
 ghost use Rattle.lookup_places.specs.NamedPlaces.{header_place, value_place, param_place, SpotIs};
 
@@ -16,61 +17,29 @@ use store_entries::groups::pass_first;
 use store_entries::{name_len, param_count, tail_len, value_len};
 use utf8::is_utf8;
 
-// Whether there is such a header, and where it begins in the head store.
-#[derive(Clone, Copy)]
-pub struct Spot {
-    pub found: bool,
-    pub at: usize,
-}
-
-// The n-th header of a name.
-fn header_place(m: CpimMessage, head: &[u8], name: &[u8], n: usize) -> Spot
-    ensures { (o : Option Message) → Held (head_lent m head.now) o → SpotIs head.now (header_place o name.now n) (nth_header o name.now n) result }
+// Where the n-th header of a name begins in the head store, if there is one.
+fn header_place(m: CpimMessage, head: &[u8], name: &[u8], n: usize) -> Option<usize>
+    ensures { (o : Option Message) → Held (head_lent m head.now) o → SpotIs head.now (header_place o name.now n) (nth_header o name.now n) (given result) }
 {
-    if !message_holds(m, head) {
-        return Spot {
-            found: false,
-            at: 0,
-        };
-    }
-    if !is_utf8(name) {
-        return Spot {
-            found: false,
-            at: 0,
-        };
+    if !message_holds(m, head) || !is_utf8(name) {
+        return None;
     }
     let g = headers_of(m, head, name);
     if g.many <= n {
-        return Spot {
-            found: false,
-            at: 0,
-        };
+        return None;
     }
     let from = 256 + g.at;
     let to = from + g.size;
-    Spot {
-        found: true,
-        at: from + pass_first(&head[from..to], 0, g.many, n),
-    }
+    Some(from + pass_first(&head[from..to], 0, g.many, n))
 }
 
 // The n-th value of a name.
 pub fn value_place(m: CpimMessage, head: &[u8], name: &[u8], n: usize) -> Part
     ensures { (o : Option Message) → Held (head_lent m head.now) o → PartIs head.now (value_place (header_place o name.now n) (nth_header o name.now n)) (get_header_value o name.now n) result }
 {
-    let p = header_place(m, head, name, n);
-    if !p.found {
-        return Part {
-            found: false,
-            start: 0,
-            length: 0,
-        };
-    }
-    let at = p.at;
-    Part {
-        found: true,
-        start: at + (16 + name_len(head, at)),
-        length: value_len(head, at),
+    match header_place(m, head, name, n) {
+        Some(at) => Part::at(at + (16 + name_len(head, at)), value_len(head, at)),
+        None => Part::NONE,
     }
 }
 
@@ -85,16 +54,9 @@ pub fn first_value_place(m: CpimMessage, head: &[u8], name: &[u8]) -> Part
 pub fn param_place(m: CpimMessage, head: &[u8], name: &[u8], k: usize, n: usize) -> Pair
     ensures { (o : Option Message) → Held (head_lent m head.now) o → PairIs head.now (param_place (header_place o name.now k) (nth_header o name.now k) n) (get_param o name.now k n) result }
 {
-    let p = header_place(m, head, name, k);
-    if !p.found {
-        return Pair {
-            found: false,
-            start: 0,
-            name: 0,
-            value: 0,
-        };
-    }
-    let at = p.at;
+    let Some(at) = header_place(m, head, name, k) else {
+        return Pair::NONE;
+    };
     let from = at + (16 + (name_len(head, at) + value_len(head, at)));
     let to = from + tail_len(head, at);
     nth_pair(head, from, to, param_count(head, at), n)

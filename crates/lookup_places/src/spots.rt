@@ -11,13 +11,31 @@ ghost use Rattle.lookup_places.specs.Spots.{PairIs, entry_place};
 use store_entries::groups::pass_first;
 use store_entries::{name_len, value_len};
 
-// A part: whether there is one, where it begins, and its length.
+// A part: whether there is one, where it begins, and its length. C reads `found` in the place of an `Option`, here and in `Pair`.
 #[repr(C)]
 #[derive(Clone, Copy)]
 pub struct Part {
     pub found: bool,
     pub start: usize,
     pub length: usize,
+}
+
+impl Part {
+    pub const NONE: Part = Part {
+        found: false,
+        start: 0,
+        length: 0,
+    };
+
+    pub fn at(start: usize, length: usize) -> Part
+        ensures { result ≡ record { found = true; start = start; length = length } }
+    {
+        Part {
+            found: true,
+            start,
+            length,
+        }
+    }
 }
 
 // A name and a value: whether there is such an entry, where the name begins, its length, and the length of the value behind it.
@@ -30,18 +48,22 @@ pub struct Pair {
     pub value: usize,
 }
 
+impl Pair {
+    pub const NONE: Pair = Pair {
+        found: false,
+        start: 0,
+        name: 0,
+        value: 0,
+    };
+}
+
 // The n-th of count entries that stand in s from a place up to another.
 pub fn nth_pair(s: &[u8], from: usize, to: usize, count: usize, n: usize) -> Pair
     requires { (from ≤ to) × (to ≤ length s.now) × (shaped_all count (take (to - from) (drop from s.now)) ≡ true) }
     ensures { (es : List Entry) → Listed layout_entry es (take (to - from) (drop from s.now)) count → PairIs s.now (entry_place from es n) (nth n es) result }
 {
     if count <= n {
-        return Pair {
-            found: false,
-            start: 0,
-            name: 0,
-            value: 0,
-        };
+        return Pair::NONE;
     }
     let at = from + pass_first(&s[from..to], 0, count, n);
     Pair {

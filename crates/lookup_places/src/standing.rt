@@ -11,47 +11,26 @@ ghost use Rattle.lookup_places.specs.Standing.{content_place, alone_param_place,
 
 use crate::spots::{Pair, Part, nth_pair};
 use format::{CpimHeader, CpimMessage};
-use lookup_part::address_span;
+use lookup_part::{Span, address_span};
 use store_check::{header_holds, message_holds};
 
 pub fn type_place(m: CpimMessage, head: &[u8]) -> Part
     ensures { (o : Option Message) → Held (head_lent m head.now) o → PartIs head.now 0 (get_type o) result }
 {
-    if !message_holds(m, head) {
-        return Part {
-            found: false,
-            start: 0,
-            length: 0,
-        };
-    }
-    Part {
-        found: true,
-        start: 0,
-        length: m.typelen,
+    if message_holds(m, head) {
+        Part::at(0, m.typelen)
+    } else {
+        Part::NONE
     }
 }
 
 pub fn held_body_place(m: CpimMessage, head: &[u8], store: &[u8]) -> Part
     ensures { (o : Option Message) → Held (both_lent m head.now store.now) o → PartIs store.now 0 (get_body o) result }
 {
-    if !message_holds(m, head) {
-        return Part {
-            found: false,
-            start: 0,
-            length: 0,
-        };
-    }
-    if store.len() < m.bodylen {
-        return Part {
-            found: false,
-            start: 0,
-            length: 0,
-        };
-    }
-    Part {
-        found: true,
-        start: 0,
-        length: m.bodylen,
+    if message_holds(m, head) && m.bodylen <= store.len() {
+        Part::at(0, m.bodylen)
+    } else {
+        Part::NONE
     }
 }
 
@@ -59,12 +38,7 @@ pub fn content_place(m: CpimMessage, head: &[u8], n: usize) -> Pair
     ensures { (o : Option Message) → Held (head_lent m head.now) o → PairIs head.now (content_place o n) (get_content o n) result }
 {
     if !message_holds(m, head) {
-        return Pair {
-            found: false,
-            start: 0,
-            name: 0,
-            value: 0,
-        };
+        return Pair::NONE;
     }
     let from = 256 + m.headerlen;
     let to = from + m.contentlen;
@@ -74,17 +48,10 @@ pub fn content_place(m: CpimMessage, head: &[u8], n: usize) -> Pair
 pub fn alone_value_place(h: CpimHeader, store: &[u8]) -> Part
     ensures { (o : Option LoneHeader) → HeldAlone h store.now o → PartIs store.now 16 (alone_value o) result }
 {
-    if !header_holds(h, store) {
-        return Part {
-            found: false,
-            start: 0,
-            length: 0,
-        };
-    }
-    Part {
-        found: true,
-        start: 16,
-        length: h.valuelen,
+    if header_holds(h, store) {
+        Part::at(16, h.valuelen)
+    } else {
+        Part::NONE
     }
 }
 
@@ -92,12 +59,7 @@ pub fn alone_param_place(h: CpimHeader, store: &[u8], n: usize) -> Pair
     ensures { (o : Option LoneHeader) → HeldAlone h store.now o → PairIs store.now (alone_param_place o n) (alone_param o n) result }
 {
     if !header_holds(h, store) {
-        return Pair {
-            found: false,
-            start: 0,
-            name: 0,
-            value: 0,
-        };
+        return Pair::NONE;
     }
     nth_pair(store, 16 + h.valuelen, h.size, h.params, n)
 }
@@ -106,17 +68,8 @@ pub fn alone_param_place(h: CpimHeader, store: &[u8], n: usize) -> Pair
 pub fn address_place(value: &[u8]) -> Part
     ensures { PartIs value.now (address_place value.now) (address value.now) result }
 {
-    let span = address_span(value);
-    if !span.found {
-        return Part {
-            found: false,
-            start: 0,
-            length: 0,
-        };
-    }
-    Part {
-        found: true,
-        start: span.from,
-        length: span.to - span.from,
+    match address_span(value) {
+        Some(Span { from, to }) => Part::at(from, to - from),
+        None => Part::NONE,
     }
 }

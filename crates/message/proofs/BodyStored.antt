@@ -1,36 +1,36 @@
 -- A new message laid into its stores, and a body put in the place of another. Assumes nothing.
-use Prim.Native.Nat.{ℕ, zero, suc, ◌-◌, ◌^◌, ◌≤◌, ◌<◌}
+use Rattle.std.specs.Prelude.{Result, Ok, Err}
+use Rattle.std.specs.Result.{result_unwrap_or, IsErrAnd}
+use Prim.Native.Nat.{ℕ, zero, suc, ◌-◌, ◌≤◌}
 use mathlib.Core.Path.{◌≡◌, refl, sym, ap, ◌∙◌}
-use mathlib.Core.Bool.{true, false, ◌&&◌}
+use mathlib.Core.Bool.{Bool, true, not, ◌&&◌}
 use mathlib.Core.List.{◌++◌, append-nil, append_assoc}
 use mathlib.Core.Option.{some}
 use native.Mathlib.Omega.{arith}
 use lib.Dec.{leb}
+use borrow.Author.Tests.{not-false}
 use lib.ListN.{length, take, drop, replicate, length-append, length-replicate, length-take}
 use lib.Seq.{drop-append-le, length-take-le}
 use Rattle.format.specs.Bytes.{Bytes, all, texts, total, pasted, over}
-use Rattle.format.specs.Characters.{is_utf8}
-use Rattle.format.specs.Limits.{max_body}
-use Rattle.format.specs.Refusals.{Out, accepted, refused, numbers, table, Check, passes, body_too_long, refuse_if, ◌>>◌}
-use Rattle.format.specs.Validators.{utf8}
+use Rattle.format.specs.Refusals.{Out, accepted, refused, nothing_held, refuse_if}
+use Rattle.format.specs.Told.{checked, told}
 use Rattle.format.specs.Message.{Message, need}
-use Rattle.format.specs.Calls.{fresh, new, body_set, with_body, body_length, set_body, arguments, lends, header_held, change}
+use Rattle.format.specs.Calls.{fresh, new, body_set, with_body, set_body, arguments, lends, header_held, change}
 use Rattle.format.specs.Layout.{Lent, Holds, layout, record_of, empty_message}
-use Rattle.format.specs.Lending.{both_lent, lengths, laid_in, leaves, makes, numbers_of, Made, Changed}
+use Rattle.format.specs.Lending.{both_lent, lengths, laid_in, leaves, makes, Made, Changed}
 use Rattle.format.specs.declared.Numbers.{Numbers}
 use Rattle.format.specs.declared.CpimMessage.{CpimMessage}
-use Rattle.format.specs.declared.Answer.{Answer}
-use Rattle.format.proofs.Rulesets.{tests, checks}
-use Rattle.format.proofs.Answers.{carried, over_limit}
+use Rattle.format.specs.declared.refusal.Refusal.{Refusal}
+use Rattle.format.proofs.Rulesets.{tests}
 use Rattle.format.proofs.Messages.Layout.{over_same, layout_length}
 use Rattle.octets.proofs.Paste.{pasted_start}
+use Rattle.validate.proofs.Chains.{let_by, handed_on}
 use Rattle.store_check.specs.Holding.{message_holds}
 use Rattle.store_check.specs.Decoding.{message_in}
 use Rattle.store_check.proofs.MessageHeld.{holds_held, held_holds}
 use Rattle.store_check.proofs.HeldParts.{held_parts}
 use Rattle.message_edit.specs.Edits.{Does}
-use Rattle.message_rules.proofs.MessageChecks.{does_refused}
-use Rattle.message_rules.proofs.CallExits.{Judged, not_held, refused_early, done_held}
+use Rattle.message_rules.proofs.CallExits.{Judged, held_alone, refused_early, done_held}
 
 -- a call that makes a message is one that finds the empty record
 pub made : (t b head store : Bytes) (k : Lent) (n : Numbers)
@@ -43,15 +43,6 @@ made t b head store k n d =
     same : (o : Out Message) → leaves (both_lent empty_message head store) o ≡ makes (both_lent empty_message head store) o
     same (accepted m) = refl
     same (refused r) = refl
-
--- 24
-pub utf8_refused : (t : Bytes) → is_utf8 t ≡ false → record { number = 24; carried = 0 } ≡ numbers (utf8 t)
-unfolding utf8 refuse_if numbers table
-utf8_refused t h = rw h refl
-
-pub utf8_passed : (t : Bytes) → is_utf8 t ≡ true → passes (utf8 t) ≡ true
-unfolding utf8
-utf8_passed t h = simp checks h
 
 -- the type over zeros
 drop_zeros : (n w : ℕ) → drop {A = ℕ} n (replicate w 0) ≡ replicate (w - n) 0
@@ -123,23 +114,6 @@ body_laid m head store b after k held e =
       body = some (e i);
     }
 
--- 23
-pub body_over : (b : Bytes) → max_body < length b → length b < 2 ^ 64 → record { number = 23; carried = length b } ≡ numbers (body_length b)
-unfolding body_length numbers table
-body_over b h f = sym (ap numbers (over_limit max_body body_too_long (length b) h) ∙ carried 23 (length b) f)
-
-pub body_within : (b : Bytes) → length b ≤ max_body → passes (body_length b) ≡ true
-unfolding body_length
-body_within b h = simp checks h
-
--- a refusal that hands back no message, and one that hands back the record as it was
-module _ (m : CpimMessage) (head store : Bytes) (r : Answer) (i j : ℕ) (x : Check) (o : Out Message) where
-  pub given_back : r ≡ record { number = i; carried = j; message = m } → record { number = i; carried = j } ≡ numbers x → (i ≡ 0 → ⊥)
-      → Does (both_lent m head store) (both_lent r.message head store) (numbers_of r) (◌>>◌ x o)
-  given_back e a z =
-      does_refused (both_lent m head store) (both_lent r.message head store) (numbers_of r) x o (ap numbers_of e ∙ a)
-      (λ w. z (ap (λ (q : Answer). q.number) (sym e) ∙ w)) (ap (λ (q : Answer). both_lent q.message head store) e)
-
 pub new_laid : (t b head store after kept : Bytes) → after ≡ over (layout (fresh t b)) head → kept ≡ over b store
     → both_lent (record { typelen = length t; headers = 0; headerlen = 0; contents = 0; contentlen = 0; bodylen = length b }) after kept
     ≡ laid_in (both_lent empty_message head store) (fresh t b)
@@ -148,22 +122,20 @@ new_laid t b head store after kept e f = λ i. record { message = new_recorded t
 
 -- The two ways out of `set_body`.
 module _ (m : CpimMessage) (head store b : Bytes) where
-  pub body_unheld : (r : Answer) → (message_holds m head && leb m.bodylen (length store)) ≡ false
-      → r ≡ record { number = 25; carried = 0; message = m }
-      → Changed (set_body b) (both_lent m head store) (both_lent r.message head store) (numbers_of r)
-  unfolding arguments all lends header_held
-  body_unheld r h e =
-      refused_early (set_body b) (both_lent m head store) (both_lent r.message head store) (numbers_of r) (message_holds m head && leb m.bodylen (length store)) true
-      (judged_both m head store) refl refl (ap numbers_of e ∙ not_held (message_holds m head && leb m.bodylen (length store)) true h)
-      (λ z. twenty_five (ap (λ (q : Answer). q.number) (sym e) ∙ z)) (ap (λ (q : Answer). both_lent q.message head store) e)
-    where
-      twenty_five : ◌≡◌ {A = ℕ} 25 0 → ⊥
-      twenty_five z = omega arith
+  abbrev held : Bool
+  held = message_holds m head && leb m.bodylen (length store)
 
-  pub body_done : (k : Lent) (n : Numbers) → message_holds m head ≡ true → m.bodylen ≤ length store
+  pub body_unheld : (e : Refusal) (q : Result CpimMessage Refusal) → checked {A = Unit {0}} (Err e) ≡ refuse_if (not held) nothing_held → IsErrAnd q (λ d. d ≡ e)
+      → Changed (set_body b) (both_lent m head store) (both_lent (result_unwrap_or q m) head store) (told q)
+  unfolding arguments all lends header_held
+  body_unheld e q r s =
+      let same = handed_on q s in
+      refused_early (set_body b) (both_lent m head store) (both_lent (result_unwrap_or q m) head store) (told q) held true (judged_both m head store) refl refl e
+      (r ∙ held_alone held) (ap told same) (ap (λ (x : Result CpimMessage Refusal). both_lent (result_unwrap_or x m) head store) same)
+
+  pub body_done : {u : Unit {0}} (k : Lent) (n : Numbers) → checked (Ok u) ≡ refuse_if (not held) nothing_held
       → ((q : Message) → Holds (both_lent m head store) q → Does (both_lent m head store) k n (body_set b (lengths (both_lent m head store)) q))
       → Changed (set_body b) (both_lent m head store) k n
   unfolding arguments all lends header_held change
-  body_done k n h s does =
-      done_held (set_body b) (both_lent m head store) k n (message_holds m head && leb m.bodylen (length store)) true (judged_both m head store) refl refl
-      (simp tests (h, s)) refl does
+  body_done k n r does =
+      done_held (set_body b) (both_lent m head store) k n held true (judged_both m head store) refl refl (not-false held (let_by (not held) nothing_held r)) refl does

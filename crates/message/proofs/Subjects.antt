@@ -19,7 +19,6 @@ use Rattle.format.specs.declared.CpimMessage.{CpimMessage}
 use Rattle.format.proofs.Steps.{then_passed, then_bind}
 use Rattle.format.proofs.Rulesets.{checks}
 use Rattle.message_edit.specs.Edits.{Does}
-use Rattle.message_rules.proofs.MessageChecks.{does_passed}
 use Rattle.message.proofs.Wrapping.{lang_put, lang_name, subject_name}
 
 pub param_short : (v : Bytes) → passes (param_value v) ≡ true → length v ≤ max_param_value
@@ -58,11 +57,3 @@ module _ (m : CpimMessage) (head v l : Bytes) (q : Message) (k : Lent) (n : Numb
   pub subject_value : Does (head_lent m head) k n (◌>>◌ (header_value v) (◌>>◌ (param_value l) Added))
       → Does (head_lent m head) k n (change (with_subject_lang v l) (lengths (head_lent m head)) q)
   subject_value d = subst (Does (head_lent m head) k n) (sym (chain v l (lengths (head_lent m head)) q)) d
-
-  pub subject_param : passes (header_value v) ≡ true → Does (head_lent m head) k n (◌>>◌ (param_value l) Added)
-      → Does (head_lent m head) k n (change (with_subject_lang v l) (lengths (head_lent m head)) q)
-  subject_param h d = subject_value (does_passed (head_lent m head) k n (header_value v) _ h d)
-
-  pub subject_append : passes (header_value v) ≡ true → passes (param_value l) ≡ true → Does (head_lent m head) k n Added
-      → Does (head_lent m head) k n (change (with_subject_lang v l) (lengths (head_lent m head)) q)
-  subject_append h p d = subject_param h (does_passed (head_lent m head) k n (param_value l) _ p d)

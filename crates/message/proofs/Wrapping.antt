@@ -1,4 +1,6 @@
 -- A wrapper is the call that it makes: a name of ASCII letters is UTF-8, so the same checks decide. Assumes nothing.
+use Rattle.std.specs.Prelude.{Result, Err}
+use Rattle.std.specs.Result.{result_unwrap_or, IsErrAnd}
 use Prim.Native.Nat.{ℕ, ◌+◌, ◌-◌, ◌^◌, ◌<◌, min}
 use mathlib.Core.Path.{◌≡◌, refl, sym, ap, ◌∙◌, subst}
 use mathlib.Core.Bool.{true}
@@ -6,24 +8,29 @@ use mathlib.Core.List.{[], ◌∷◌, ◌++◌, append_assoc, append-nil}
 use mathlib.Core.Option.{Option, none, some}
 use native.Mathlib.Omega.{arith}
 use lib.Dec.{ltb}
+use borrow.Author.Tests.{ltb-true}
 use lib.ListN.{length, take, drop, length-append}
 use lib.Seq.{take_at}
 use Rattle.format.specs.Bytes.{Bytes, ascii, all, texts, pasted, over}
 use Rattle.format.specs.Characters.{is_utf8}
 use Rattle.format.specs.Limits.{max_value}
-use Rattle.format.specs.Refusals.{numbers, table, passes, value_too_long}
+use Rattle.format.specs.Refusals.{Out, numbers, table, passes, refuse_if, value_too_long, ◌>>◌}
+use Rattle.format.specs.Told.{checked, told}
 use Rattle.format.specs.Validators.{header_name, header_value, param_name}
 use Rattle.format.specs.Message.{Message, entry, put, insert, without}
 use Rattle.format.specs.Calls.{Stores, Call, arguments, handed_in, change, answer, header_added, ns_value}
 use Rattle.format.specs.Layout.{Lent, entry_bytes, layout_entry}
-use Rattle.format.specs.Lending.{lengths, leaves, Changed}
+use Rattle.format.specs.Lending.{head_lent, lengths, leaves, Changed}
 use Rattle.format.specs.declared.Numbers.{Numbers}
+use Rattle.format.specs.declared.CpimMessage.{CpimMessage}
+use Rattle.format.specs.declared.refusal.Refusal.{Refusal}
 use Rattle.format.proofs.Characters.Chars.{utf8_ascii_text}
 use Rattle.format.proofs.Computing.{computing}
-use Rattle.format.proofs.Answers.{over_limit}
 use Rattle.octets.proofs.Paste.{pasted_start, pasted_pasted}
+use Rattle.validate.proofs.Chains.{stopped, told_by, handed_on}
 use Rattle.store_splice.proofs.Splicing.{entry_length}
 use Rattle.message_edit.specs.Edits.{Does}
+use Rattle.message_rules.proofs.MessageChecks.{does_over}
 
 module _ (c d : Call) (handed : handed_in c ≡ handed_in d) (texts : all is_utf8 (arguments c) ≡ all is_utf8 (arguments d))
     (same : (st : Stores) (m : Message) → change c st m ≡ change d st m) where
@@ -68,13 +75,23 @@ unfolding ns_value
 ns_length p u = simp length-append (omega arith)
 
 -- a value of NS that is too long
-pub ns_over : (p u : Bytes) (n : ℕ) → 1021 < length p + length u → n ≡ min (length p + length u + 3) (2 ^ 64 - 1)
-    → record { number = 10; carried = n } ≡ numbers (header_value (ns_value p u))
-unfolding header_value numbers table
-ns_over p u n h e =
-    let q = ap numbers (over_limit max_value value_too_long (length (ns_value p u)) (omega (arith, ns_length p u))) in
-    let w : n ≡ min (length (ns_value p u)) (2 ^ 64 - 1) = e ∙ ap (λ (i : ℕ). min i (2 ^ 64 - 1)) (sym (ns_length p u)) in
-    (λ i. record { number = 10; carried = w i }) ∙ sym q
+pub ns_over : (l : Lent) (p u : Bytes) (n : ℕ) (o : Out Message) → 1021 < length p + length u → n ≡ min (length p + length u + 3) (2 ^ 64 - 1)
+    → Does l l (table (value_too_long n)) (◌>>◌ (header_value (ns_value p u)) o)
+unfolding header_value table
+ns_over l p u n o h e =
+    let w : min n (2 ^ 64 - 1) ≡ min (length (ns_value p u)) (2 ^ 64 - 1) = omega (arith, ns_length p u) in
+    does_over l l _ max_value value_too_long (length (ns_value p u)) o (omega (arith, ns_length p u)) (λ i. record { number = 10; carried = w i }) refl
+
+pub ns_refused : (m : CpimMessage) (head p u : Bytes) (n : ℕ) (o : Out Message) (e : Refusal) (q : Result CpimMessage Refusal)
+    → checked {A = Unit {0}} (Err e) ≡ refuse_if (ltb 1021 (length p + length u)) (value_too_long n) → n ≡ min (length p + length u + 3) (2 ^ 64 - 1) → IsErrAnd q (λ d. d ≡ e)
+    → Does (head_lent m head) (head_lent (result_unwrap_or q m) head) (told q) (◌>>◌ (header_value (ns_value p u)) o)
+ns_refused m head p u n o e q r h s =
+    let over = ltb-true 1021 (length p + length u) (stopped e _ _ r) in
+    let does : Does (head_lent m head) (head_lent m head) (told {A = CpimMessage} (Err e)) (◌>>◌ (header_value (ns_value p u)) o) =
+    subst (λ (i : Numbers). Does (head_lent m head) (head_lent m head) i (◌>>◌ (header_value (ns_value p u)) o)) (sym (told_by CpimMessage e _ _ r))
+    (ns_over (head_lent m head) p u n o over h) in
+    subst (λ (x : Result CpimMessage Refusal). Does (head_lent m head) (head_lent (result_unwrap_or x m) head) (told x) (◌>>◌ (header_value (ns_value p u)) o))
+    (sym (handed_on q s)) does
 
 -- one parameter
 pub lang_put : (l : Bytes) → put (entry (ascii "lang") l) [] ≡ entry (ascii "lang") l ∷ []

@@ -1,6 +1,7 @@
 -- An entry put into a message that is held: by what `replace` answers and writes, the call does what the answer asks for.
 -- Assumes nothing.
-use Rattle.std.specs.Prelude.{if◌then◌else◌}
+use Rattle.std.specs.Prelude.{if◌then◌else◌, Result}
+use Rattle.std.specs.Result.{result_unwrap_or}
 use Prim.Native.Nat.{ℕ, ◌+◌, ◌-◌, ◌≤◌}
 use mathlib.Core.Path.{◌≡◌, refl, sym, ap, ◌∙◌}
 use mathlib.Core.List.{List, [], ◌∷◌, ◌++◌}
@@ -8,20 +9,21 @@ use native.Mathlib.Omega.{arith}
 use lib.Dec.{ltb}
 use lib.ListN.{length}
 use Rattle.format.specs.Bytes.{Bytes, total, over}
-use Rattle.format.specs.Refusals.{numbers}
 use Rattle.format.specs.Message.{Entry, Header, Message, entry, need_entry, need_header, need_alone, need}
 use Rattle.format.specs.Calls.{room, if_room, with_headers, with_contents}
 use Rattle.format.specs.Layout.{Holds, entry_bytes, layout_entry, layout_header, layout, record_of}
 use Rattle.format.specs.Lending.{head_lent}
-use Rattle.format.specs.declared.Numbers.{Numbers}
+use Rattle.format.specs.Told.{checked, told}
+use Rattle.format.specs.declared.refusal.Refusal.{Refusal}
 use Rattle.format.specs.declared.CpimMessage.{CpimMessage}
 use Rattle.format.proofs.Messages.Layout.{headers_length, entries_length}
 use Rattle.store_splice.specs.Spliced.{entry_size, spliced, Parted}
+use Rattle.store_splice.proofs.Answered.{answer}
 use Rattle.store_splice.proofs.Splicing.{section_need, section_count, section_within}
 use Rattle.message_edit.specs.Edits.{Does, Spelt}
 use Rattle.message_edit.proofs.Laying.{placed, header_laid, content_laid}
 
-module _ (m r : CpimMessage) (head after : Bytes) (n : Numbers) (k : Message) (held : Holds (head_lent m head) k) where
+module _ (m : CpimMessage) (head after : Bytes) (r : Result (Unit {0}) Refusal) (q : Result CpimMessage Refusal) (k : Message) (held : Holds (head_lent m head) k) where
   headers_is : m.headers ≡ length k.headers
   unfolding record_of
   headers_is = ap (λ (q : CpimMessage). q.headers) held.recorded
@@ -42,21 +44,24 @@ module _ (m r : CpimMessage) (head after : Bytes) (n : Numbers) (k : Message) (h
   unfolding need record_of
   used_is = rw held.recorded refl
 
+  used : ℕ
+  used = 256 + (m.headerlen + m.contentlen)
+
   -- what the store needs and is, once its used bytes have an entry of size bytes in the place of the old ones
-  replaced : (e : Bytes) (at old size : ℕ) (q : Message)
-      → 256 + (m.headerlen + m.contentlen) - old + size ≡ need q
-      → spliced at old (need k) e head ≡ layout q
-      → n ≡ numbers (room (length head) (256 + (m.headerlen + m.contentlen) - old + size))
-      → after ≡ (if ltb (length head) (256 + (m.headerlen + m.contentlen) - old + size) then head else over (spliced at old (256 + (m.headerlen + m.contentlen)) e head) head)
-      → ((n.number ≡ 0 → ⊥) → r ≡ m) → (n.number ≡ 0 → r ≡ record_of q)
-      → Does (head_lent m head) (head_lent r after) n (if_room (length head) q)
-  replaced e at old size q needs laid answered left kept new =
-      placed m r head after n q
-      (answered ∙ ap (λ (i : ℕ). numbers (room (length head) i)) needs)
+  replaced : (e : Bytes) (at old size : ℕ) (new : CpimMessage) (made : Message)
+      → used - old + size ≡ need made → spliced at old (need k) e head ≡ layout made → new ≡ record_of made
+      → q ≡ answer r new
+      → checked r ≡ room (length head) (used - old + size)
+      → after ≡ (if ltb (length head) (used - old + size) then head else over (spliced at old used e head) head)
+      → Does (head_lent m head) (head_lent (result_unwrap_or q m) after) (told q) (if_room (length head) made)
+  unfolding used
+  replaced e at old size new made needs laid recorded answers checks left =
+      placed m new head after made r q answers
+      (checks ∙ ap (room (length head)) needs)
       (left
-      ∙ ap (λ (i : ℕ). if ltb (length head) i then head else over (spliced at old (256 + (m.headerlen + m.contentlen)) e head) head) needs
-      ∙ ap (λ (s : Bytes). if ltb (length head) (need q) then head else over s head) (ap (λ (u : ℕ). spliced at old u e head) used_is ∙ laid))
-      kept new
+      ∙ ap (λ (i : ℕ). if ltb (length head) i then head else over (spliced at old used e head) head) needs
+      ∙ ap (λ (s : Bytes). if ltb (length head) (need made) then head else over s head) (ap (λ (u : ℕ). spliced at old u e head) used_is ∙ laid))
+      recorded
 
   module _ (name value : Bytes) (at old many : ℕ) where
     module _ (params : ℕ) (tail : Bytes) (l g h : List Header) (x : Header) (p : Parted need_header k.headers l g h at old many) (spelt : Spelt x name value params tail) where
@@ -83,7 +88,7 @@ module _ (m r : CpimMessage) (head after : Bytes) (n : Numbers) (k : Message) (h
       need_header_lem = omega (arith, headerlen_is, contentlen_is, size, within.0)
 
       record-header :
-          record { typelen = m.typelen; headers = m.headers - many + 1; headerlen = m.headerlen - old + entry_size name value tail; contents = m.contents; contentlen = m.contentlen; bodylen = m.bodylen }
+          record m { headers = m.headers - many + 1; headerlen = m.headerlen - old + entry_size name value tail }
           ≡ record_of (with_headers k (l ++ (x ∷ h)))
       unfolding record_of
       record-header =
@@ -91,15 +96,16 @@ module _ (m r : CpimMessage) (head after : Bytes) (n : Numbers) (k : Message) (h
           let b : m.headerlen - old + entry_size name value tail ≡ total need_header (l ++ (x ∷ h)) = omega (arith, headerlen_is, size, within.0) in
           λ i. record { typelen = (held.recorded i).typelen; headers = a i; headerlen = b i; contents = (held.recorded i).contents; contentlen = (held.recorded i).contentlen; bodylen = (held.recorded i).bodylen }
 
-      pub header_put : n ≡ numbers (room (length head) (256 + (m.headerlen + m.contentlen) - old + entry_size name value tail))
+      pub header_put : (new : CpimMessage) → new ≡ record m { headers = m.headers - many + 1; headerlen = m.headerlen - old + entry_size name value tail }
+          → q ≡ answer r new
+          → checked r ≡ room (length head) (256 + (m.headerlen + m.contentlen) - old + entry_size name value tail)
           → after ≡ (if ltb (length head) (256 + (m.headerlen + m.contentlen) - old + entry_size name value tail) then head else over (spliced (256 + at) old (256 + (m.headerlen + m.contentlen)) (entry_bytes name value params tail) head) head)
-          → ((n.number ≡ 0 → ⊥) → r ≡ m)
-          → (n.number ≡ 0 → r ≡ record { typelen = m.typelen; headers = m.headers - many + 1; headerlen = m.headerlen - old + entry_size name value tail; contents = m.contents; contentlen = m.contentlen; bodylen = m.bodylen })
-          → Does (head_lent m head) (head_lent r after) n (if_room (length head) (with_headers k (l ++ (x ∷ h))))
-      header_put answered left kept new =
-          replaced (entry_bytes name value params tail) (256 + at) old (entry_size name value tail) (with_headers k (l ++ (x ∷ h))) need_header_lem
+          → Does (head_lent m head) (head_lent (result_unwrap_or q m) after) (told q) (if_room (length head) (with_headers k (l ++ (x ∷ h))))
+      unfolding used
+      header_put new is =
+          replaced (entry_bytes name value params tail) (256 + at) old (entry_size name value tail) new (with_headers k (l ++ (x ∷ h))) need_header_lem
           (ap (λ (e : Bytes). spliced (256 + at) old (need k) e head) (sym header_bytes) ∙ header_laid k held.within head held.laid l g h x at old many p)
-          answered left kept (λ z. new z ∙ record-header)
+          (is ∙ record-header)
 
     module _ (l g h : List Entry) (p : Parted need_entry k.contents l g h at old many) where
       entry_bytes_lem : layout_entry (entry name value) ≡ entry_bytes name value 0 []
@@ -123,22 +129,23 @@ module _ (m r : CpimMessage) (head after : Bytes) (n : Numbers) (k : Message) (h
       need_content = omega (arith, headerlen_is, contentlen_is, entries_size, entries_within.0)
 
       record-content :
-          record { typelen = m.typelen; headers = m.headers; headerlen = m.headerlen; contents = m.contents - many + 1; contentlen = m.contentlen - old + (16 + (length name + length value)); bodylen = m.bodylen }
+          record m { contents = m.contents - many + 1; contentlen = m.contentlen - old + entry_size name value [] }
           ≡ record_of (with_contents k (l ++ (entry name value ∷ h)))
       unfolding record_of
       record-content =
           let a : m.contents - many + 1 ≡ length (l ++ (entry name value ∷ h)) = omega (arith, contents_is, entries_count, entries_within.1) in
-          let b : m.contentlen - old + (16 + (length name + length value)) ≡ total need_entry (l ++ (entry name value ∷ h)) = omega (arith, contentlen_is, entries_size, entries_within.0) in
+          let b : m.contentlen - old + entry_size name value [] ≡ total need_entry (l ++ (entry name value ∷ h)) = omega (arith, contentlen_is, entries_size, entries_within.0) in
           λ i. record { typelen = (held.recorded i).typelen; headers = (held.recorded i).headers; headerlen = (held.recorded i).headerlen; contents = a i; contentlen = b i; bodylen = (held.recorded i).bodylen }
 
-      pub content_put : n ≡ numbers (room (length head) (256 + (m.headerlen + m.contentlen) - old + entry_size name value []))
+      pub content_put : (new : CpimMessage) → new ≡ record m { contents = m.contents - many + 1; contentlen = m.contentlen - old + entry_size name value [] }
+          → q ≡ answer r new
+          → checked r ≡ room (length head) (256 + (m.headerlen + m.contentlen) - old + entry_size name value [])
           → after ≡ (if ltb (length head) (256 + (m.headerlen + m.contentlen) - old + entry_size name value []) then head else over (spliced (256 + m.headerlen + at) old (256 + (m.headerlen + m.contentlen)) (entry_bytes name value 0 []) head) head)
-          → ((n.number ≡ 0 → ⊥) → r ≡ m)
-          → (n.number ≡ 0 → r ≡ record { typelen = m.typelen; headers = m.headers; headerlen = m.headerlen; contents = m.contents - many + 1; contentlen = m.contentlen - old + (16 + (length name + length value)); bodylen = m.bodylen })
-          → Does (head_lent m head) (head_lent r after) n (if_room (length head) (with_contents k (l ++ (entry name value ∷ h))))
-      content_put answered left kept new =
-          replaced (entry_bytes name value 0 []) (256 + m.headerlen + at) old (entry_size name value []) (with_contents k (l ++ (entry name value ∷ h))) need_content
+          → Does (head_lent m head) (head_lent (result_unwrap_or q m) after) (told q) (if_room (length head) (with_contents k (l ++ (entry name value ∷ h))))
+      unfolding used
+      content_put new is =
+          replaced (entry_bytes name value 0 []) (256 + m.headerlen + at) old (entry_size name value []) new (with_contents k (l ++ (entry name value ∷ h))) need_content
           (ap (λ (i : ℕ). spliced (256 + i + at) old (need k) (entry_bytes name value 0 []) head) headerlen_is
           ∙ ap (λ (e : Bytes). spliced (256 + total need_header k.headers + at) old (need k) e head) (sym entry_bytes_lem)
           ∙ content_laid k held.within head held.laid l g h (entry name value) at old many p)
-          answered left kept (λ z. new z ∙ record-content)
+          (is ∙ record-content)

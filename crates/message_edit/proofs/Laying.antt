@@ -1,7 +1,8 @@
 -- The head store with an entry spliced in is the layout of the message with that entry. Assumes nothing.
-use Rattle.std.specs.Prelude.{if◌then◌else◌}
+use Rattle.std.specs.Prelude.{if◌then◌else◌, Result, Ok, Err}
+use Rattle.std.specs.Result.{result_unwrap_or}
 use Prim.Native.Nat.{ℕ, ◌+◌, ◌-◌}
-use mathlib.Core.Path.{◌≡◌, refl, sym, ap, ◌∙◌}
+use mathlib.Core.Path.{◌≡◌, refl, sym, ap, ◌∙◌, subst}
 use mathlib.Core.Bool.{Bool, true, false}
 use mathlib.Core.List.{List, [], ◌∷◌, ◌++◌, append_assoc, append-nil}
 use mathlib.Core.Option.{none}
@@ -9,43 +10,42 @@ use native.Mathlib.Omega.{arith}
 use lib.Dec.{ltb}
 use lib.ListN.{length, take, replicate, length-append, length-replicate}
 use Rattle.format.specs.Bytes.{Bytes, total, texts, over}
-use Rattle.format.specs.Refusals.{accepted, numbers, refuse_if, ◌>>◌, no_room}
+use Rattle.format.specs.Refusals.{accepted, numbers, table, refuse_if, ◌>>◌, no_room}
 use Rattle.format.specs.Message.{Entry, Header, Message, need_entry, need_header, need, valid}
 use Rattle.format.specs.Calls.{room, if_room, with_headers, with_contents}
 use Rattle.format.specs.Layout.{layout_entry, layout_header, layout, record_of}
 use Rattle.format.specs.Lending.{head_lent, laid_in, leaves}
-use Rattle.format.specs.declared.Numbers.{Numbers}
+use Rattle.format.specs.Told.{checked, told, meant}
 use Rattle.format.specs.declared.CpimMessage.{CpimMessage}
-use Rattle.format.proofs.Lists.{clash}
-use Rattle.format.proofs.Rulesets.{checks}
-use Rattle.format.proofs.Answers.{zero_passes, passed_numbers}
+use Rattle.format.specs.declared.refusal.Refusal.{Refusal}
 use Rattle.format.proofs.Messages.Layout.{headers_length, entries_length, content_type_length}
 use Rattle.format.proofs.Messages.Parts.{message_parts}
 use Rattle.store_splice.specs.Spliced.{spliced, Parted}
+use Rattle.store_splice.proofs.Answered.{answer}
 use Rattle.store_splice.proofs.Splicing.{section_spliced}
 use Rattle.message_edit.specs.Edits.{Does}
 
 -- Room is judged, and the entry laid: what the record and the store then are is what the answer asks for.
-module _ (m r : CpimMessage) (head after : Bytes) (n : Numbers) (k : Message) where
-  placed_by : (short : Bool) → short ≡ ltb (length head) (need k)
-      → n ≡ numbers (refuse_if short (no_room (need k)))
-      → after ≡ (if short then head else over (layout k) head)
-      → (short ≡ true → r ≡ m) → (short ≡ false → r ≡ record_of k)
-      → Does (head_lent m head) (head_lent r after) n (◌>>◌ (refuse_if short (no_room (need k))) (accepted k))
-  unfolding refuse_if numbers leaves laid_in ◌>>◌
-  placed_by true e a s kept new = record { answered = a; left = λ i. record { message = kept refl i; head = s i; body = none } }
-  placed_by false e a s kept new = record { answered = a; left = λ i. record { message = new refl i; head = s i; body = none } }
+module _ (m new : CpimMessage) (head after : Bytes) (k : Message) where
+  placed_by : (short : Bool) (r : Result (Unit {0}) Refusal) → checked r ≡ refuse_if short (no_room (need k))
+      → after ≡ (if short then head else over (layout k) head) → new ≡ record_of k
+      → Does (head_lent m head) (head_lent (result_unwrap_or (answer r new) m) after) (told (answer r new)) (◌>>◌ (refuse_if short (no_room (need k))) (accepted k))
+  unfolding refuse_if numbers leaves laid_in ◌>>◌ checked told
+  placed_by true (Err e) a s made =
+      let same : meant e ≡ no_room (need k) = cc in
+      record { answered = ap table same; left = λ i. record { message = m; head = s i; body = none } }
+  placed_by false (Ok u) a s made = record { answered = refl; left = λ i. record { message = made i; head = s i; body = none } }
+  placed_by true (Ok u) a s made = absurd (cc)
+  placed_by false (Err e) a s made = absurd (cc)
 
-  pub placed : n ≡ numbers (room (length head) (need k))
-      → after ≡ (if ltb (length head) (need k) then head else over (layout k) head)
-      → ((n.number ≡ 0 → ⊥) → r ≡ m) → (n.number ≡ 0 → r ≡ record_of k)
-      → Does (head_lent m head) (head_lent r after) n (if_room (length head) k)
+  pub placed : (r : Result (Unit {0}) Refusal) (q : Result CpimMessage Refusal) → q ≡ answer r new
+      → checked r ≡ room (length head) (need k)
+      → after ≡ (if ltb (length head) (need k) then head else over (layout k) head) → new ≡ record_of k
+      → Does (head_lent m head) (head_lent (result_unwrap_or q m) after) (told q) (if_room (length head) k)
   unfolding if_room room
-  placed a s kept new =
-      let check = room (length head) (need k) in
-      placed_by (ltb (length head) (need k)) refl a s
-      (λ t. kept (λ z. clash t (simp checks at (zero_passes check n a z))))
-      (λ f. new (ap (λ (x : Numbers). x.number) (a ∙ sym (passed_numbers check (simp checks f)))))
+  placed r q e a s made =
+      subst (λ (x : Result CpimMessage Refusal). Does (head_lent m head) (head_lent (result_unwrap_or x m) after) (told x) (if_room (length head) k)) (sym e)
+      (placed_by (ltb (length head) (need k)) r a s made)
 
 -- The bytes before the headers.
 module _ (k : Message) (v : valid k ≡ true) where

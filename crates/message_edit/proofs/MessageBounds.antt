@@ -50,6 +50,18 @@ bounds m head h =
       contents_shaped = parts.contents_shaped;
     }
 
+-- the same of its numbers, for the search
+pub used_within : (m : CpimMessage) (head : Bytes) → message_holds m head ≡ true → 256 + (m.headerlen + m.contentlen) ≤ length head
+used_within m head h = (bounds m head h).used
+
+pub few_headers : (m : CpimMessage) (head : Bytes) → message_holds m head ≡ true → m.headers ≤ max_headers
+few_headers m head h = (bounds m head h).headers
+
+pub few_contents : (m : CpimMessage) (head : Bytes) → message_holds m head ≡ true → m.contents ≤ max_contents
+few_contents m head h = (bounds m head h).contents
+
+pub ruleset held_bounds = (used_within, few_headers, few_contents)
+
 -- a part of a store as a slice takes it
 pub part_is : (from n : ℕ) (s : Bytes) → take (from + n - from) (drop from s) ≡ take n (drop from s)
 part_is from n s =

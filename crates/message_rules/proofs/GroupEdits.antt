@@ -1,22 +1,18 @@
 -- A header or content header put among those of a message: the message that the definition gives is the one with the list in parts.
 -- Assumes nothing.
-use Prim.Native.Nat.{ℕ, ◌+◌, ◌^◌, ◌≤◌, ◌<◌}
-use mathlib.Core.Path.{◌≡◌, refl, sym, ap, ◌∙◌, subst}
+use Prim.Native.Nat.{ℕ, ◌+◌, ◌-◌, ◌≤◌}
+use mathlib.Core.Path.{◌≡◌, refl, sym, ◌∙◌, subst}
 use mathlib.Core.Bool.{true}
 use mathlib.Core.List.{List, [], ◌∷◌, ◌++◌, append_assoc}
 use native.Mathlib.Omega.{arith}
 use lib.ListN.{length}
 use Rattle.format.specs.Bytes.{Bytes}
-use Rattle.format.specs.Limits.{max_headers}
-use Rattle.format.specs.Refusals.{Refusal, table, ◌carrying◌, Out, at_most, ◌>>◌}
 use Rattle.format.specs.Message.{Entry, Header, Message, name_of, entry_name, entry, insert, without, put, ascending, need_header, need_entry}
-use Rattle.format.specs.Calls.{header_count, if_room, with_headers, with_contents, append}
-use Rattle.format.specs.Layout.{Lent, Holds}
-use Rattle.format.specs.Lending.{head_lent, lengths}
+use Rattle.format.specs.Calls.{if_room, with_headers, with_contents}
+use Rattle.format.specs.Layout.{Holds}
+use Rattle.format.specs.Lending.{head_lent}
 use Rattle.format.specs.declared.Numbers.{Numbers}
 use Rattle.format.specs.declared.CpimMessage.{CpimMessage}
-use Rattle.format.proofs.Rulesets.{checks}
-use Rattle.format.proofs.Answers.{carried}
 use Rattle.format.proofs.Messages.Parts.{message_parts}
 use Rattle.store_entries.specs.Groups.{low, own, high, Grouped}
 use Rattle.store_entries.proofs.ByName.{insert_parts, put_parts}
@@ -25,38 +21,34 @@ use Rattle.store_check.specs.Holding.{message_holds}
 use Rattle.store_check.proofs.HeldParts.{HeldParts, held_parts}
 use Rattle.message_edit.specs.Edits.{Does}
 use Rattle.message_edit.proofs.MessageBounds.{held_in, holding}
-use Rattle.message_edit.proofs.GroupParts.{increasing_ascending, in_place, behind, many_within, bytes_within}
-use Rattle.message_rules.proofs.MessageChecks.{does_passed, does_over}
+use Rattle.message_edit.proofs.GroupParts.{increasing_ascending, in_place, behind, many_within, bytes_within, without_count}
 
--- One more than a list may have: 20 or 22, carrying their number with it; no byte and no record changes.
-pub too_many : (l : Lent) (n : Numbers) (limit number : ℕ) (refusal : ℕ → Refusal) (i j : ℕ) (o : Out Message)
-    → ((c : ℕ) → table (refusal c) ≡ number carrying c) → limit ≤ i → i ≡ j → i < 2 ^ 60 → n ≡ record { number = number; carried = i + 1 }
-    → Does l l n (◌>>◌ (at_most limit refusal (j + 1)) o)
-too_many l n limit number refusal i j o tabled over count fits e =
-    let c : i + 1 ≡ j + 1 = omega (arith, count) in
-    does_over l l n limit refusal (j + 1) o (omega (arith, over, count))
-    (e ∙ sym (carried number (i + 1) (omega arith)) ∙ ap (λ (q : ℕ). number carrying q) c ∙ sym (tabled (j + 1))) refl
+-- how many headers stand beside those of a name
+pub others_left : (m : CpimMessage) (head : Bytes) (k : Message) (held : Holds (head_lent m head) k) (name : Bytes) (at size many : ℕ)
+    → Grouped name_of need_header name k.headers at size many → m.headers - many ≡ length (without name_of name k.headers)
+others_left m head k held name at size many g =
+    omega (
+      arith,
+      without_count name_of need_header name k.headers at size many g (message_parts k held.within).headers.ordered,
+      (held_parts (head_lent m head) k held).headers,
+    )
 
 module _ (m r : CpimMessage) (head after : Bytes) (n : Numbers) (k : Message) (held : Holds (head_lent m head) k) (name : Bytes) (at size many : ℕ) where
   module _ (g : Grouped name_of need_header name k.headers at size many) (x : Header) (named : x.name ≡ name) where
     ordered : ascending name_of k.headers ≡ true
     ordered = (message_parts k held.within).headers.ordered
 
-    pub appended : m.headers < max_headers → m.headers ≡ length k.headers
-        → ((l p h : List Header) → Parted need_header k.headers l p h (at + size) 0 0
+    pub appended : ((l p h : List Header) → Parted need_header k.headers l p h (at + size) 0 0
         → Does (head_lent m head) (head_lent r after) n (if_room (length head) (with_headers k (l ++ (x ∷ h)))))
-        → Does (head_lent m head) (head_lent r after) n (append x (lengths (head_lent m head)) k)
-    unfolding append lengths header_count
-    appended few count does =
+        → Does (head_lent m head) (head_lent r after) n (if_room (length head) (with_headers k (insert name_of x k.headers)))
+    appended does =
         let l = low name_of name k.headers in
         let o = own name_of name k.headers in
         let h = high name_of name k.headers in
         let e : (l ++ o) ++ (x ∷ h) ≡ insert name_of x k.headers =
         append_assoc l o (x ∷ h) ∙ sym (insert_parts name_of name k.headers ordered x named) in
-        does_passed (head_lent m head) (head_lent r after) n (header_count (length k.headers)) (if_room (length head) (with_headers k (insert name_of x k.headers)))
-        (simp checks (omega (arith, few, count)))
-        (subst (λ (hs : List Header). Does (head_lent m head) (head_lent r after) n (if_room (length head) (with_headers k hs))) e
-        (does (l ++ o) [] h (behind name_of need_header name k.headers at size many g)))
+        subst (λ (hs : List Header). Does (head_lent m head) (head_lent r after) n (if_room (length head) (with_headers k hs))) e
+        (does (l ++ o) [] h (behind name_of need_header name k.headers at size many g))
 
     pub replaced : ((l p h : List Header) → Parted need_header k.headers l p h at size many
         → Does (head_lent m head) (head_lent r after) n (if_room (length head) (with_headers k (l ++ (x ∷ h)))))

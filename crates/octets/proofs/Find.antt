@@ -1,17 +1,21 @@
 -- What `find_byte` gives: the place of the first c, before which `up_to` and behind which `past` stand. Assumes nothing.
 use Rattle.std.specs.Prelude.{if◌then◌else◌}
-use Prim.Native.Nat.{ℕ, zero, suc, ◌+◌, ◌≤◌, ◌<◌}
+use Prim.Native.Nat.{ℕ, zero, suc, ◌+◌, ◌≤◌}
 use mathlib.Core.Path.{◌≡◌, refl, sym, ap, ◌∙◌}
 use mathlib.Core.Bool.{Bool, true, false, ◌||◌}
-use mathlib.Core.Logic.{⊎_elim}
+use mathlib.Core.Logic.{◌⊎◌, inl, inr, ⊎_elim}
 use mathlib.Core.List.{[], ◌∷◌}
 use native.Mathlib.Numerals.{add-one}
 use native.Mathlib.Omega.{arith}
 use lib.Dec.{eqb, ltb}
-use lib.ListN.{length, take, drop, get_or, length-take, drop_of_length-le}
-use lib.Seq.{drop-cons}
-use borrow.Author.Tests.{eq-eqb, ne_eqb, lt-ltb, le-ltb, ltb-true, ltb-false}
-use Rattle.format.proofs.Lists.{bcase, or_false_left, or_false_right}
+use lib.ListN.{length, take, drop, length-take}
+use borrow.Author.Tests.{lt-ltb, le-ltb, ltb-true, ltb-false}
+use Rattle.format.proofs.Lists.{bcase, eqb_sym, or_false_left, or_false_right}
+use Rattle.std.specs.List.{position_or_len, position}
+use Rattle.std.specs.Option.{unwrap_or}
+use Rattle.std.proofs.Common.{Option, nat_lt}
+use Rattle.std.proofs.lemmas.List.Recursion.{is_position_or_len}
+use Rattle.std.specs.Prelude.{nat_eq, cond}
 use Rattle.format.specs.Bytes.{Bytes, any, has, up_to, past}
 
 -- the part before it, by the place
@@ -66,21 +70,6 @@ module _ (c : ℕ) (s : Bytes) (r : ℕ) (found : r ≡ length (up_to c s)) wher
   pub found_has : has c s ≡ ltb r (length s)
   found_has = rw found (has_place c s)
 
--- the byte at i is c: the search ends
-pub up_to_found : (c : ℕ) (s : Bytes) (i : ℕ) → i < length s → get_or s i 0 ≡ c → length (up_to c (drop i s)) ≡ 0
-unfolding up_to
-up_to_found c s i h e = rw (drop-cons s i 0 h, eq-eqb c (get_or s i 0) (sym e)) refl
-
--- it is another: the search goes on
-pub up_to_other : (c : ℕ) (s : Bytes) (i : ℕ) → i < length s → (get_or s i 0 ≡ c → ⊥) → length (up_to c (drop i s)) ≡ 1 + length (up_to c (drop (i + 1) s))
-unfolding up_to
-up_to_other c s i h e = rw (drop-cons s i 0 h, ne_eqb c (get_or s i 0) (λ q. e (sym q)), add-one i) (omega arith)
-
--- nothing is left
-pub up_to_end : (c : ℕ) (s : Bytes) (i : ℕ) → length s ≤ i → length (up_to c (drop i s)) ≡ 0
-unfolding up_to
-up_to_end c s i h = rw (drop_of_length-le s {i = i} h) refl
-
 -- n bytes without a c are passed over
 pub up_to_skip : (c n : ℕ) (t : Bytes) → n ≤ length t → has c (take n t) ≡ false → length (up_to c t) ≡ n + length (up_to c (drop n t))
 unfolding any up_to
@@ -89,3 +78,24 @@ up_to_skip c (suc n) [] h e = absurd (omega arith)
 up_to_skip c (suc n) (b ∷ t) h e =
     let f = up_to_skip c n t (omega arith) (or_false_right (eqb c b) (has c (take n t)) e) in
     rw (or_false_left (eqb c b) (has c (take n t)) e) (omega arith)
+
+-- as the library finds it
+pub up_to_position : (c : ℕ) (s : Bytes) → length (up_to c s) ≡ position_or_len (λ b. nat_eq b c) s
+unfolding up_to
+up_to_position c = is_position_or_len (λ s. length (up_to c s)) (λ b. nat_eq b c) refl (λ b s. rw (eqb_sym c b) (go (nat_eq b c) b s))
+  where
+    go : (x : Bool) (b : ℕ) (s : Bytes) → length (if x then [] else b ∷ up_to c s) ≡ cond x 0 (1 + length (up_to c s))
+    go true b s = refl
+    go false b s = omega arith
+
+pub up_to_found_at : (c : ℕ) (s : Bytes) (r : Option ℕ) → r ≡ position (λ b. nat_eq b c) s → unwrap_or r (length s) ≡ length (up_to c s)
+up_to_found_at c s r e =
+    let p = up_to_position c s in
+    ap (λ o. unwrap_or o (length s)) e ∙ go (bcase (nat_lt n (length s))) ∙ sym p
+  where
+    n : ℕ
+    n = position_or_len (λ b. nat_eq b c) s
+
+    go : (nat_lt n (length s) ≡ true) ⊎ (nat_lt n (length s) ≡ false) → unwrap_or (position (λ b. nat_eq b c) s) (length s) ≡ n
+    go (inl h) = rw h refl
+    go (inr h) = rw h (omega (arith, ltb-false n (length s) h, up_to_position c s, up_to_within c s))

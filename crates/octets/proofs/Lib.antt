@@ -2,5 +2,5 @@ pub mod Comparing
 pub mod Find
 pub mod ByteBlock
 pub mod Paste
-pub mod Shifts
 pub mod Written
+pub mod Shifts

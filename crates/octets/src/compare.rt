@@ -1,104 +1,66 @@
 // Texts compared: the same bytes, in byte order, letters in any ASCII case, and a word looked for in a text.
 // Each contract is an equation with a definition of crates/format/specs/Bytes.antt.
 
-ghost use Rattle.std.specs.Prelude.{◌≡◌, map, min, length};
-ghost use Rattle.format.specs.Bytes.{same, before, occurs, lower, same_letters};
+ghost use Rattle.std.specs.Prelude.{◌≡◌, ◌+◌, ◌≤◌, map, length, drop};
+ghost use Rattle.format.specs.Bytes.{same, before, begins, occurs, lower, same_letters};
 
 // The same bytes.
+#[tactic(auto, using(crate::proofs::Comparing::same_pointwise))]
 pub fn same(a: &[u8], b: &[u8]) -> bool
     ensures { result ≡ same a.now b.now }
 {
-    if a.len() != b.len() {
-        return false;
-    }
-    let mut i = 0;
-    while i < a.len() {
-        if a[i] != b[i] {
-            return false;
-        }
-        i += 1;
-    }
-    true
+    a == b
 }
 
-// The length of the shorter one.
-fn shorter(a: &[u8], b: &[u8]) -> usize
-    ensures { result ≡ min (length a.now) (length b.now) }
-{
-    if b.len() < a.len() {
-        return b.len();
-    }
-    a.len()
-}
-
-// Strictly before in byte order; a prefix comes first.
+// Strictly before in byte order; a prefix comes first. (`a < b` looks at one byte after another, and takes 50 times as long at 1000 bytes. A loop
+// would be faster only where all of two to seven bytes are the same: 5.8 for 8.4 ns at seven.)
+#[tactic(auto, using(crate::proofs::Comparing::before_ordered))]
 pub fn before(a: &[u8], b: &[u8]) -> bool
     ensures { result ≡ before a.now b.now }
 {
-    let end = shorter(a, b);
-    let mut i = 0;
-    while i < end {
-        if b[i] != a[i] {
-            return a[i] < b[i];
-        }
-        i += 1;
-    }
-    a.len() < b.len()
+    a.cmp(&b).is_lt()
 }
 
 // A to Z become a to z.
+#[tactic(auto, using(crate::proofs::Comparing::lower_is))]
 pub fn lower(b: u8) -> u8
     ensures { result ≡ lower b }
 {
-    if b < 65 {
-        return b;
-    }
-    if 90 < b {
-        return b;
-    }
-    b + 32
+    b.to_ascii_lowercase()
 }
 
 // The same bytes, letters in any ASCII case.
 pub fn same_letters(a: &[u8], b: &[u8]) -> bool
     ensures { result ≡ same_letters a.now b.now }
 {
-    if a.len() != b.len() {
-        return false;
-    }
-    let mut i = 0;
-    while i < a.len() {
-        if lower(a[i]) != lower(b[i]) {
+    a.eq_ignore_ascii_case(b)
+}
+
+// Whether the pattern, in lower case, stands at a place of the text, whose letters are of any ASCII case.
+fn stands_at(text: &[u8], at: usize, pattern: &[u8]) -> bool
+    requires { at + length pattern.now ≤ length text.now }
+    ensures { result ≡ begins pattern.now (drop at (map lower text.now)) }
+{
+    for (j, p) in pattern.iter().enumerate() {
+        if lower(text[at + j]) != *p {
             return false;
         }
-        i += 1;
     }
     true
 }
 
-// Whether the pattern, in lower case and not empty, stands anywhere in the text, whose letters are of any ASCII case.
+// Whether the pattern, in lower case and not empty, stands anywhere in the text, whose letters are of any ASCII case. (`windows` and `zip`
+// take an eighth longer: 1500 for 1330 ns at 1000 bytes.)
 pub fn says(text: &[u8], pattern: &[u8]) -> bool
     ensures { result ≡ occurs pattern.now (map lower text.now) }
 {
-    let mut at = 0;
-    let found = 'places: loop {
-        if text.len() <= at {
-            break 'places false;
-        }
+    for at in 0..text.len() {
         if text.len() - at < pattern.len() {
-            break 'places false;
+            return false;
         }
-        let mut j = 0;
-        loop {
-            if pattern.len() <= j {
-                break 'places true;
-            }
-            if lower(text[at + j]) != pattern[j] {
-                break;
-            }
-            j += 1;
+        if stands_at(text, at, pattern) {
+            return true;
         }
-        at += 1;
-    };
-    found
+    }
+    false
 }

@@ -6,7 +6,8 @@ ghost use Rattle.format.specs.Bytes.{pasted};
 
 use crate::copy_at;
 
-// The n bytes at from go to the place to; the two ranges may overlap.
+// The n bytes at from go to the place to; the two ranges may overlap. (`copy_within` moves what is left of 32 bytes one by one: 7.4 for
+// 5.7 ns at 20 bytes, 7.7 for 5.2 at 24.)
 pub fn shift(s: &mut [u8], from: usize, to: usize, n: usize)
     requires { (from + n ≤ length s.old) × (to + n ≤ length s.old) }
     ensures { s.new ≡ pasted to (take n (drop from s.old)) s.old }

@@ -6,7 +6,8 @@ ghost use Rattle.output.specs.Put.{Put};
 
 use octets::copy_at;
 
-// The digits at the end of room for the longest number; gives where they start.
+// The digits at the end of room for the longest number; gives where they start. (The last digit comes first, and how many there are shows at the
+// end: a `for` over the places would need its own way out.)
 fn spell(n: u64, digits: &mut [u8]) -> usize
     requires { length digits.old ≡ 20 }
     ensures { (result ≤ 20) × (drop result digits.new ≡ decimal n) }

@@ -14,7 +14,7 @@ use Rattle.format.specs.Calls.{Stores, room, enough, body_length, body_set, with
 use Rattle.format.specs.Reading.{each, lines, read_content_line, blank, says_cpim, Parts, text_parts, read_parts, read_with}
 use Rattle.format.proofs.Steps.{then_on, then_passed, bind_on, bind_passed}
 use Rattle.format.proofs.Answers.{over_limit, space_enough}
-use Rattle.message.proofs.BodyStored.{body_within}
+use Rattle.read.proofs.ReadStores.{body_within}
 use Rattle.read.specs.Heads.{any_body}
 use Rattle.read.specs.TextLines.{read_sections, read_lines_with}
 use Rattle.read.proofs.Outcomes.{headers_same, contents_same}

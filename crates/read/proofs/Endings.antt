@@ -1,6 +1,7 @@
 -- What `parse_head` and `parse_cpim` ensure, by what the lines of a text give and by its body, for any reader of a header line. Assumes nothing.
-use Rattle.std.specs.Prelude.{if◌then◌else◌}
-use Prim.Native.Nat.{ℕ, ◌-◌, ◌^◌, ◌≤◌, ◌<◌}
+use Rattle.std.specs.Prelude.{Result, Ok, Err, Some, None, if◌then◌else◌}
+use Rattle.std.specs.Result.{is_err, result_unwrap_or}
+use Prim.Native.Nat.{ℕ, ◌-◌, ◌≤◌, ◌<◌}
 use mathlib.Core.Path.{◌≡◌, refl, sym, ap, subst, ◌∙◌}
 use mathlib.Core.Bool.{Bool, true, false, true≢false}
 use mathlib.Core.Option.{some}
@@ -14,20 +15,21 @@ use Rattle.format.specs.Calls.{with_body}
 use Rattle.format.specs.Reading.{Parts, text_parts, read_with}
 use Rattle.format.specs.LookingUp.{stands_in_text}
 use Rattle.format.specs.Layout.{empty_message}
-use Rattle.format.specs.Lending.{head_lent, both_lent, length_of, lengths, numbers_of, zeroed, ReadInto, ReadLeaves, ParsedWith}
+use Rattle.format.specs.Lending.{head_lent, both_lent, length_of, lengths, zeroed, ReadInto, ReadLeaves, ParsedWith}
 use Rattle.format.specs.declared.Numbers.{Numbers}
 use Rattle.format.specs.declared.CpimMessage.{CpimMessage}
-use Rattle.format.specs.declared.Answer.{Answer}
+use Rattle.format.specs.Told.{told, meant}
+use Rattle.format.specs.declared.refusal.Refusal as code
+use Rattle.format.specs.declared.refusal.Refusal.TheVariants as kinds
 use Rattle.format.proofs.Steps.{accepted_same, refused_accepted, bind_accepted}
-use Rattle.format.proofs.Answers.{carried}
 use Rattle.sections.proofs.Joining.{body_crlf}
 use Rattle.sections.proofs.BodyParts.{filled_body}
 use Rattle.read_split.specs.TextJudged.{body_behind}
-use Rattle.read.specs.declared.HeadAnswer.{HeadAnswer}
+use Rattle.read.specs.declared.Head.{Head}
 use Rattle.read.specs.SectionLines.{LinesRead}
-use Rattle.read.specs.Heads.{any_body, read_head_with, head_numbers, stands_in, start_of, HeadParsedWith}
+use Rattle.read.specs.Heads.{any_body, read_head_with, message_in, stands_in, start_of, HeadParsedWith}
 use Rattle.read.specs.TextLines.{read_lines_with, joined_over, copied_over, BodyStands}
-use Rattle.read.proofs.LinesLoop.{zero_accepted, other_refused}
+use Rattle.read.proofs.LinesLoop.{zero_accepted, other_refused, err_number}
 use Rattle.read.proofs.ReadStores.{bodied, body_into}
 use Rattle.read.proofs.BodyLast.{lines_refused, read_long, read_short, read_whole}
 
@@ -40,31 +42,41 @@ pub body_stored : (crlf : Bool) (s d : Bytes) → length (body_behind crlf s) �
 body_stored true s d h = rw (body_crlf s) refl
 body_stored false s d h = filled_body (pieces (split lf_lf_text s)) d h
 
--- A refusal, of `parse_head` and of `parse_cpim`, by its numbers.
-module _ (reader : Bytes → Out Header) (t head : Bytes) (n : Numbers) (z : n.number ≡ 0 → ⊥) where
-  pub head_refused : n ≡ numbers (read_head_with reader t (length head)) → (a : HeadAnswer) (after : Bytes)
-      → a ≡ record { number = n.number; carried = n.carried; message = empty_message; in_text = false; start = 0 } → after ≡ zeroed head
-      → HeadParsedWith reader t (head_lent empty_message head) (head_lent a.message after) a
+-- A refusal, of `parse_head` and of `parse_cpim`.
+module _ (reader : Bytes → Out Header) (t head after : Bytes) (zeros : after ≡ zeroed head) (e : code.Refusal) where
+  pub head_refused : told {A = Head} (Err e) ≡ numbers (read_head_with reader t (length head))
+      → HeadParsedWith reader t (head_lent empty_message head) (head_lent empty_message after) (Err e)
   unfolding stands_in start_of
-  head_refused h a after e f =
-      let o = other_refused (read_head_with reader t (length head)) n h z in
+  head_refused h =
+      let o = other_refused (read_head_with reader t (length head)) _ h (err_number Head e) in
       record {
-        answered = ap head_numbers e ∙ h;
-        left = subst (ReadLeaves (head_lent empty_message head) (head_lent a.message after)) (sym o.1) (λ i. head_lent (e i).message (f i));
-        inside = ap (λ (x : HeadAnswer). x.in_text) e ∙ sym (ap (stands_in t) o.1);
-        begins = ap (λ (x : HeadAnswer). x.start) e ∙ sym (ap (start_of t) o.1);
+        answered = h;
+        left = subst (ReadLeaves (head_lent empty_message head) (head_lent empty_message after)) (sym o.1) (λ i. head_lent empty_message (zeros i));
+        inside = sym (ap (stands_in t) o.1);
+        begins = sym (ap (start_of t) o.1);
         there = λ m g. refused_accepted o.0 m (sym o.1 ∙ g);
       }
 
-  pub whole_refused : (body : Bytes) → n ≡ numbers (read_with reader t (lengths (both_lent empty_message head body))) → (a : Answer) (after kept : Bytes)
-      → a ≡ record { number = n.number; carried = n.carried; message = empty_message } → after ≡ zeroed head → kept ≡ zeroed body
-      → ParsedWith reader t (both_lent empty_message head body) (both_lent a.message after kept) (numbers_of a)
-  whole_refused body h a after kept e f g =
-      let o = other_refused (read_with reader t (lengths (both_lent empty_message head body))) n h z in
+  pub whole_refused : (body kept : Bytes) → kept ≡ zeroed body → told {A = CpimMessage} (Err e) ≡ numbers (read_with reader t (lengths (both_lent empty_message head body)))
+      → ParsedWith reader t (both_lent empty_message head body) (both_lent empty_message after kept) (told {A = CpimMessage} (Err e))
+  whole_refused body kept g h =
+      let o = other_refused (read_with reader t (lengths (both_lent empty_message head body))) _ h (err_number CpimMessage e) in
       record {
-        answered = ap numbers_of e ∙ h;
-        left = subst (ReadLeaves (both_lent empty_message head body) (both_lent a.message after kept)) (sym o.1) (λ i. both_lent (e i).message (f i) (g i));
+        answered = h;
+        left = subst (ReadLeaves (both_lent empty_message head body) (both_lent empty_message after kept)) (sym o.1) (λ i. both_lent empty_message (zeros i) (g i));
       }
+
+-- the same of a result that is a refusal
+pub head_refused_by : (reader : Bytes → Out Header) (t head after : Bytes) → after ≡ zeroed head → (q : Result Head code.Refusal) → is_err q ≡ true
+    → told q ≡ numbers (read_head_with reader t (length head)) → HeadParsedWith reader t (head_lent empty_message head) (head_lent (message_in q) after) q
+head_refused_by reader t head after z (Ok h) e n = absurd (true≢false (sym e))
+head_refused_by reader t head after z (Err r) e n = head_refused reader t head after z r n
+
+pub whole_refused_by : (reader : Bytes → Out Header) (t head after : Bytes) → after ≡ zeroed head → (body kept : Bytes) → kept ≡ zeroed body
+    → (q : Result CpimMessage code.Refusal) → is_err q ≡ true → told q ≡ numbers (read_with reader t (lengths (both_lent empty_message head body)))
+    → ParsedWith reader t (both_lent empty_message head body) (both_lent (result_unwrap_or q empty_message) after kept) (told q)
+whole_refused_by reader t head after z body kept y (Ok h) e n = absurd (true≢false (sym e))
+whole_refused_by reader t head after z body kept y (Err r) e n = whole_refused reader t head after z r body kept y n
 
 -- What the lines of a text give: m and after are what they leave, n is what is answered.
 module _ (reader : Bytes → Out Header) (t head : Bytes) (m : CpimMessage) (after : Bytes) (n : Numbers)
@@ -101,19 +113,17 @@ module _ (reader : Bytes → Out Header) (t head : Bytes) (m : CpimMessage) (aft
       body_size = size ∙ sym (ap length body_stands.behind)
 
       -- 23, whatever the body store
-      pub told_long : max_body < b → b < 2 ^ 64 → (body : ℕ) → record { number = 23; carried = b } ≡ numbers (read_with reader t (record { head = length head; body = body }))
-      unfolding numbers table
-      told_long long f body =
-          sym (carried 23 b f)
-          ∙ sym (ap numbers (read_long reader (record { head = length head; body = body }) t parts_are.0 parts_are.1 message_is is_read b body_size long))
+      pub told_long : max_body < b → (body : ℕ) → table (meant (kinds.BodyTooLong b)) ≡ numbers (read_with reader t (record { head = length head; body = body }))
+      unfolding numbers meant
+      told_long long body =
+          sym (ap numbers (read_long reader (record { head = length head; body = body }) t parts_are.0 parts_are.1 message_is is_read b body_size long))
 
       module _ (short : b ≤ max_body) where
         -- 26
-        pub told_short : b < 2 ^ 64 → (body : ℕ) → body < b → record { number = 26; carried = b } ≡ numbers (read_with reader t (record { head = length head; body = body }))
-        unfolding numbers table
-        told_short f body l =
-            sym (carried 26 b f)
-            ∙ sym (ap numbers (read_short reader (record { head = length head; body = body }) t parts_are.0 parts_are.1 message_is is_read b body_size short l))
+        pub told_short : (body : ℕ) → body < b → table (meant (kinds.TooShort b)) ≡ numbers (read_with reader t (record { head = length head; body = body }))
+        unfolding numbers meant
+        told_short body l =
+            sym (ap numbers (read_short reader (record { head = length head; body = body }) t parts_are.0 parts_are.1 message_is is_read b body_size short l))
 
         -- all is accepted: the head store is as long as it was
         module _ (kept : length after ≡ length head) where
@@ -129,8 +139,8 @@ module _ (reader : Bytes → Out Header) (t head : Bytes) (m : CpimMessage) (aft
 
           -- `parse_head`, by whether the body stands in the text
           pub head-inside : inside ≡ true
-              → HeadParsedWith reader t (head_lent empty_message head) (head_lent (bodied m b) after) (record { number = 0; carried = 0; message = bodied m b; in_text = true; start = start })
-          unfolding stands_in start_of numbers
+              → HeadParsedWith reader t (head_lent empty_message head) (head_lent (bodied m b) after) (Ok (record { message = bodied m b; body = Some start }))
+          unfolding stands_in start_of numbers told
           head-inside h =
               let in-text : stands_in_text t ≡ true = sym body_stands.separated ∙ h in
               let behind : parts_are.0.body ≡ drop start t = body_stands.behind ∙ ap (λ (x : Bool). body_behind x (drop start t)) h ∙ body_crlf (drop start t) in
@@ -145,8 +155,8 @@ module _ (reader : Bytes → Out Header) (t head : Bytes) (m : CpimMessage) (aft
               }
 
           pub head-outside : inside ≡ false
-              → HeadParsedWith reader t (head_lent empty_message head) (head_lent (bodied m b) after) (record { number = 0; carried = 0; message = bodied m b; in_text = false; start = 0 })
-          unfolding stands_in start_of numbers
+              → HeadParsedWith reader t (head_lent empty_message head) (head_lent (bodied m b) after) (Ok (record { message = bodied m b; body = None }))
+          unfolding stands_in start_of numbers told
           head-outside h =
               let in-text : stands_in_text t ≡ false = sym body_stands.separated ∙ h in
               record {

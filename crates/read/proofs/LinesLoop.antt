@@ -1,26 +1,30 @@
 -- The lines of a section, read one by one: what has been read so far is held, and the rest of the lines decides. Carried by the cut of a
 -- line (`More`) and by what an accepted line leaves (`laid_holds`). Assumes nothing.
-use Rattle.std.specs.Prelude.{if◌then◌else◌}
+use Rattle.std.specs.Prelude.{Result, Ok, Err, None, Some}
+use Rattle.std.specs.Prelude as std
+use Rattle.std.specs.Result.{IsErrAnd, result_unwrap_or}
+use Rattle.std.proofs.lemmas.Result.{err_from_is_err_and}
 use Prim.Native.Nat.{ℕ, ◌+◌, ◌-◌, ◌≤◌, ◌<◌}
 use mathlib.Core.Path.{◌≡◌, refl, sym, ap, subst, ◌∙◌}
-use mathlib.Core.Bool.{Bool, true, false}
+use mathlib.Core.Bool.{Bool, true}
 use mathlib.Core.List.{List, [], ◌∷◌}
-use mathlib.Core.Logic.{⊎_elim}
 use mathlib.Core.Option.{none}
 use native.Mathlib.Omega.{arith}
 use lib.ListN.{length, take, drop, length-drop}
 use lib.Seq.{take-length}
 use Rattle.format.specs.Bytes.{Bytes, all, pieces, split}
 use Rattle.format.specs.Characters.{is_utf8}
-use Rattle.format.specs.Refusals.{Refusal, Out, accepted, refused, numbers, ◌>>=◌}
+use Rattle.format.specs.Refusals.{Refusal, Out, accepted, refused, numbers, table, ◌>>=◌}
 use Rattle.format.specs.Message.{Message, valid}
 use Rattle.format.specs.Calls.{Stores}
 use Rattle.format.specs.Reading.{each, lines}
 use Rattle.format.specs.Layout.{Lent, Holds}
 use Rattle.format.specs.Lending.{head_lent, length_of, lengths, leaves}
+use Rattle.format.specs.Told.{told, meant}
 use Rattle.format.specs.declared.Numbers.{Numbers}
+use Rattle.format.specs.declared.refusal.Refusal as code
 use Rattle.format.specs.declared.CpimMessage.{CpimMessage}
-use Rattle.format.proofs.Lists.{bcase, all_head, all_tail}
+use Rattle.format.proofs.Lists.{all_head, all_tail}
 use Rattle.format.proofs.Steps.{accepted_same, refused_accepted, refused_number}
 use Rattle.format.proofs.Messages.Layout.{laid_holds}
 use Rattle.format.proofs.Texts.ReadValid.{lines_utf8}
@@ -30,7 +34,7 @@ use Rattle.message_edit.specs.Edits.{Does}
 use Rattle.message_edit.proofs.MessageBounds.{held_in, holding}
 use Rattle.sections.specs.declared.Piece.{Piece}
 use Rattle.sections.specs.Cuts.{cut_of, line_end_for}
-use Rattle.sections.proofs.Cutting.{rest_more, rest_last, rest_within, rest_whole}
+use Rattle.sections.proofs.Cutting.{by_next, rest_more, rest_last, rest_within, rest_whole}
 use Rattle.sections.proofs.Sections.{line_end_long}
 use Rattle.read.specs.SectionLines.{LinesRead}
 
@@ -70,38 +74,77 @@ pub lengths_kept : (a b : CpimMessage) (s t : Bytes) → length s ≡ length t �
 unfolding lengths
 lengths_kept a b s t e = λ i. record { head = e i; body = length_of none }
 
+-- the number of what is given, and of a refusal
+pub ok_number : {A : Type 0} (x : A) → (told (Ok x)).number ≡ 0
+unfolding told
+ok_number x = refl
+
+pub err_number : (A : Type 0) (e : code.Refusal) → (told {A = A} (Err e)).number ≡ 0 → ⊥
+unfolding told
+err_number A e z = refused_number (meant e) z
+
+-- a refusal handed on by a `?`: the head store's bytes are free
+pub refused_lines : {A : Type 0} (B : Type 0) (q : Result A code.Refusal) (e : code.Refusal) (k : Lent) {o : Out Message} → IsErrAnd q (λ d. d ≡ e) → told {A = B} (Err e) ≡ numbers o → LinesRead k (told q) o
+unfolding told
+refused_lines B q e k {o} s h =
+    let p = err_from_is_err_and q s in
+    let n : told q ≡ table (meant e) = ap told p.1 ∙ ap (λ (d : code.Refusal). table (meant d)) p.2 in
+    let r = other_refused o (table (meant e)) h (refused_number (meant e)) in
+    record { answered = n ∙ h; held = λ m x. refused_accepted r.0 m (sym r.1 ∙ x) }
+
+-- the numbers of a refusal that a `?` handed on
+pub err_told : {A : Type 0} (B : Type 0) (q : Result A code.Refusal) (e : code.Refusal) → IsErrAnd q (λ d. d ≡ e) → told q ≡ told {A = B} (Err e)
+unfolding told
+err_told B q e s = let p = err_from_is_err_and q s in ap told p.1 ∙ ap (λ (d : code.Refusal). table (meant d)) p.2
+
+-- of a refusal the record is free
+pub lines_default : (q : Result CpimMessage code.Refusal) (a b : CpimMessage) (head : Bytes) (o : Out Message) → LinesRead (head_lent (result_unwrap_or q a) head) (told q) o
+    → LinesRead (head_lent (result_unwrap_or q b) head) (told q) o
+lines_default (Ok x) a b head o d = d
+lines_default (Err e) a b head o d =
+    let r = other_refused o _ d.answered (err_number CpimMessage e) in
+    record { answered = d.answered; held = λ m x. refused_accepted r.0 m (sym r.1 ∙ x) }
+
+-- the lines behind the first, by the place behind it
+others_of : Bool → Bytes → ℕ → std.Option ℕ → List Bytes
+others_of crlf t at None = []
+others_of crlf t at (Some n) = pieces (split (line_end_for crlf) (drop (at + n) t))
+
 -- the first line of what is left of a section, and the others
 module _ (crlf : Bool) (t : Bytes) (at : ℕ) (r : Piece) (e : r ≡ cut_of (line_end_for crlf) (take (length t - at) (drop at t))) where
   pub others : List Bytes
-  others = if r.last then [] else pieces (split (line_end_for crlf) (drop (at + r.next) t))
+  others = others_of crlf t at r.next
 
   pub next_line : pieces (split (line_end_for crlf) (drop at t)) ≡ take r.end (drop at t) ∷ others
-  unfolding others
-  next_line = ⊎_elim last more (bcase r.last)
+  unfolding others others_of
+  next_line = by_next r.next last more
     where
-      last : r.last ≡ true → pieces (split (line_end_for crlf) (drop at t)) ≡ take r.end (drop at t) ∷ others
+      last : r.next ≡ None → pieces (split (line_end_for crlf) (drop at t)) ≡ take r.end (drop at t) ∷ others
       last h =
-          rw (h, rest_whole (line_end_for crlf) t at r e h, take-length (drop at t)) (rest_last (line_end_for crlf) t at r e h)
+          let end : take r.end (drop at t) ≡ drop at t = ap (λ (n : ℕ). take n (drop at t)) (rest_whole (line_end_for crlf) t at r e h) ∙ take-length (drop at t) in
+          rest_last (line_end_for crlf) t at r e h ∙ sym (ap (λ (l : Bytes). l ∷ []) end) ∙ ap (λ (o : std.Option ℕ). take r.end (drop at t) ∷ others_of crlf t at o) (sym h)
 
-      more : r.last ≡ false → pieces (split (line_end_for crlf) (drop at t)) ≡ take r.end (drop at t) ∷ others
-      more h = rw h (rest_more (line_end_for crlf) t at r e (line_end_long crlf) h).pieces_are
+      more : (n : ℕ) → r.next ≡ Some n → pieces (split (line_end_for crlf) (drop at t)) ≡ take r.end (drop at t) ∷ others
+      more n h =
+          (rest_more (line_end_for crlf) t at r e n (line_end_long crlf) h).pieces_are
+          ∙ ap (λ (o : std.Option ℕ). take r.end (drop at t) ∷ others_of crlf t at o) (sym h)
 
-  pub no_others : r.last ≡ true → others ≡ []
-  unfolding others
-  no_others h = rw h refl
+  pub no_others : r.next ≡ None → others ≡ []
+  unfolding others others_of
+  no_others h = ap (others_of crlf t at) h
 
-  pub more_others : r.last ≡ false → others ≡ pieces (split (line_end_for crlf) (drop (at + r.next) t))
-  unfolding others
-  more_others h = rw h refl
+  pub more_others : (n : ℕ) → r.next ≡ Some n → others ≡ pieces (split (line_end_for crlf) (drop (at + n) t))
+  unfolding others others_of
+  more_others n h = ap (others_of crlf t at) h
 
   pub end_within : at ≤ length t → at + r.end ≤ length t
   end_within h = omega (arith, length-drop at t, rest_within (line_end_for crlf) t at r e)
 
-  pub next_within : at ≤ length t → r.last ≡ false → (at + r.next ≤ length t) × (0 < r.next)
-  next_within h f =
-      let m = rest_more (line_end_for crlf) t at r e (line_end_long crlf) f in
+  pub next_within : at ≤ length t → (n : ℕ) → r.next ≡ Some n → (at + n ≤ length t) × (0 < n)
+  next_within h n f =
+      let m = rest_more (line_end_for crlf) t at r e n (line_end_long crlf) f in
       let l = line_end_long crlf in
-      (omega (arith, length-drop at t), omega arith)
+      (omega (arith, length-drop at t, m.within), omega (arith, m.behind))
 
 -- Lines of a section, ended by sep, from a place on; the message that was read so far is in the record now and the store head. `before`
 -- and `store` are what the loop began with.

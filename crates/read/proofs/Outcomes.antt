@@ -3,22 +3,22 @@
 use Prim.Native.Nat.{ℕ, ◌<◌, ◌≤◌}
 use mathlib.Core.Path.{◌≡◌, refl, sym, ap, subst, ◌∙◌}
 use mathlib.Core.Bool.{true, false, not}
-use mathlib.Core.List.{List, []}
+use mathlib.Core.List.{List}
 use native.Mathlib.Omega.{arith}
-use Rattle.format.specs.Bytes.{Bytes, ascii}
-use Rattle.format.specs.Refusals.{no_message_cpim, table, Out, accepted, refused, numbers, Check, refuse_if, passes, ◌>>◌, ◌>>=◌}
+use Rattle.format.specs.Bytes.{Bytes}
+use Rattle.format.specs.Refusals.{Refusal, no_message_cpim, table, Out, accepted, refused, numbers, Check, refuse_if, passes, ◌>>◌, ◌>>=◌}
 use Rattle.format.specs.Message.{Header, Message, need}
 use Rattle.format.specs.Calls.{Stores, room, append, content_header_added}
-use Rattle.format.specs.Reading.{each, lines, read_named, read_content_line, blank, says_cpim, read_line, read_header_line}
+use Rattle.format.specs.Reading.{each, lines, read_named, read_content_line, blank, says_cpim, read_line, read_header_line, Parts, text_parts}
 use Rattle.format.specs.Layout.{Lent}
 use Rattle.format.specs.declared.Numbers.{Numbers}
 use Rattle.format.proofs.Steps.{refused_accepted, refuse_unless_passed, then_passed, bind_passed}
 use Rattle.format.proofs.Answers.{other_fails, then_refused, room_short, room_enough}
-use Rattle.message.proofs.BodyStored.{new_need}
+use Rattle.read.proofs.ReadStores.{blank_need}
 use Rattle.read.proofs.LinesLoop.{other_refused}
 use Rattle.read.specs.Heads.{any_body}
 use Rattle.read.specs.SectionLines.{LinesRead}
-use Rattle.read.specs.TextLines.{read_sections}
+use Rattle.read.specs.TextLines.{read_sections, read_lines_with}
 
 module _ (k : Lent) (n : Numbers) where
   -- a check refuses, or passes
@@ -85,7 +85,7 @@ module _ (reader : Bytes → Out Header) (mime headers contents : Bytes) (head :
     no_room_lem a h =
         by_passed k n (refuse_if (not (says_cpim mime)) no_message_cpim) _ said
         (by_refused k n (room head (need blank)) _
-        (a ∙ room_short head 256 h (omega arith) ∙ ap (λ (i : ℕ). numbers (room head i)) (sym (new_need (ascii "text/plain") [])))
+        (a ∙ room_short head 256 h (omega arith) ∙ ap (λ (i : ℕ). numbers (room head i)) (sym blank_need))
         (λ z. twenty_five (ap (λ (x : Numbers). x.number) (sym a) ∙ z)))
       where
         twenty_five : ◌≡◌ {A = ℕ} 25 0 → ⊥
@@ -97,7 +97,7 @@ module _ (reader : Bytes → Out Header) (mime headers contents : Bytes) (head :
       unfolding read_sections
       lines_decide d =
           by_passed k n (refuse_if (not (says_cpim mime)) no_message_cpim) _ said
-          (by_passed k n (room head (need blank)) _ (ap (λ (i : ℕ). passes (room head i)) (new_need (ascii "text/plain") []) ∙ room_enough head 256 roomy) d)
+          (by_passed k n (room head (need blank)) _ (ap (λ (i : ℕ). passes (room head i)) blank_need ∙ room_enough head 256 roomy) d)
 
       -- a header line is refused
       pub headers_stop : n ≡ numbers (each (read_header_line reader (any_body head)) (lines headers) blank) → (n.number ≡ 0 → ⊥)
@@ -108,3 +108,8 @@ module _ (reader : Bytes → Out Header) (mime headers contents : Bytes) (head :
       pub contents_decide : (m : Message) → each (read_header_line reader (any_body head)) (lines headers) blank ≡ accepted m
           → LinesRead k n (each (read_content_line (any_body head)) (lines contents) m) → LinesRead k n (read_sections reader mime headers contents head)
       contents_decide m heads d = lines_decide (by_went k n _ _ m heads d)
+
+-- a text that is refused
+pub text_refused : (reader : Bytes → Out Header) (t : Bytes) (head : ℕ) (r : Refusal) → text_parts t ≡ refused r → read_lines_with reader t head ≡ refused r
+unfolding read_lines_with ◌>>=◌
+text_refused reader t head r h = ap (λ (o : Out Parts). ◌>>=◌ o (λ p. read_sections reader p.mime p.headers p.contents head)) h

@@ -1,5 +1,5 @@
 -- What reading starts from, and its end: the record with the body's length. Assumes nothing.
-use Prim.Native.Nat.{ℕ}
+use Prim.Native.Nat.{ℕ, ◌≤◌}
 use mathlib.Core.Path.{◌≡◌, refl, sym, ap, ◌∙◌}
 use mathlib.Core.Bool.{true}
 use mathlib.Core.List.{append-nil}
@@ -10,7 +10,9 @@ use Rattle.format.specs.Characters.{is_ascii_control}
 use Rattle.format.specs.Refusals.{passes, refuse_if, at_most, ◌>>◌}
 use Rattle.format.specs.Validators.{content_type}
 use Rattle.format.specs.Message.{Message, ascending, increasing, need, valid}
-use Rattle.format.specs.Calls.{with_body}
+use Rattle.format.specs.Calls.{with_body, body_length}
+use Rattle.format.specs.Limits.{max_body}
+use Rattle.format.proofs.Rulesets.{checks}
 use Rattle.format.specs.Reading.{blank}
 use Rattle.format.specs.Layout.{Holds, layout, record_of, empty_message}
 use Rattle.format.specs.Lending.{head_lent, ReadInto}
@@ -65,3 +67,13 @@ body_into m first head b k n held kept size =
       kept = kept;
       stored = refl;
     }
+
+-- what reading starts from needs the bytes of a type
+pub blank_need : need blank ≡ 256
+unfolding need total
+blank_need = refl
+
+-- a body within its limit
+pub body_within : (b : Bytes) → length b ≤ max_body → passes (body_length b) ≡ true
+unfolding body_length
+body_within b h = simp checks h

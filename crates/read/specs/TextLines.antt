@@ -1,6 +1,6 @@
 -- Reading a text up to its body: what its lines give, and where the body stands that is then judged by 23 and 26
 -- (`lines_first` in proofs/BodyLast.antt: the two together are the definition of reading). Assumes nothing.
-use Rattle.std.specs.Prelude.{ℕ, ◌≤◌, ◌≡◌, Bool, not, length, drop, if◌then◌else◌}
+use Rattle.std.specs.Prelude.{ℕ, ◌≤◌, ◌≡◌, Bool, Result, Ok, Err, not, length, drop, if◌then◌else◌}
 use Rattle.format.specs.Bytes.{Bytes, lf_lf_text, pieces, split, over}
 use Rattle.format.specs.Limits.{max_text}
 use Rattle.format.specs.Refusals.{no_message_cpim, Out, refuse_if, ◌>>◌, ◌>>=◌}
@@ -10,6 +10,10 @@ use Rattle.format.specs.Reading.{each, lines, read_content_line, blank, says_cpi
 use Rattle.format.specs.LookingUp.{stands_in_text}
 use Rattle.sections.specs.Body.{body_parts, filled}
 use Rattle.read_split.specs.TextJudged.{body_behind}
+use Rattle.format.specs.Layout.{empty_message}
+use Rattle.format.specs.declared.CpimMessage.{CpimMessage}
+use Rattle.format.specs.declared.refusal.Refusal.{Refusal}
+use Rattle.read.specs.declared.Lines.{Lines}
 use Rattle.read.specs.Heads.{any_body}
 
 -- the first three sections of a text, by any reader of a header line: 3, 25 carrying 256, headers, content headers
@@ -39,3 +43,8 @@ joined_over crlf s store = if crlf then store else filled 0 (body_parts (pieces 
 
 abbrev pub copied_over : Bool → Bytes → Bytes → Bytes
 copied_over crlf s store = if crlf then over s store else store
+
+-- the record that reading the lines of a text leaves
+abbrev pub lines_message : Result Lines Refusal → CpimMessage
+lines_message (Ok l) = l.message
+lines_message (Err r) = empty_message

@@ -2,17 +2,19 @@
 // that is held. Header lines are read by document 01's reader of a line, or by that of document 02, T-01.
 
 ghost use Rattle.std.specs.Prelude.{◌≡◌, true, ◌≤◌, length};
+ghost use Rattle.std.specs.Result.{result_unwrap_or};
 ghost use Rattle.format.specs.Characters.{is_utf8};
 ghost use Rattle.format.specs.Message.{Message};
 ghost use Rattle.format.specs.Reading.{each, lines, read_header_line, read_content_line};
 ghost use Rattle.format.specs.ReadingRfc.{line_reader};
 ghost use Rattle.format.specs.Layout.{Holds};
-ghost use Rattle.format.specs.Lending.{head_lent, lengths, numbers_of};
+ghost use Rattle.format.specs.Lending.{head_lent, lengths};
+ghost use Rattle.format.specs.Told.{told};
 ghost use Rattle.store_check.specs.Holding.{message_holds};
 ghost use Rattle.message_edit.specs.Edits.{Does};
 ghost use Rattle.read.specs.SectionLines.{LinesRead};
 
-use format::{Answer, CpimMessage, Manner};
+use format::{CpimMessage, Manner, Refusal};
 use read_content_line::read_content_line;
 use read_header_line::read_header_line;
 use sections::{crlf_lines, cut_line};
@@ -24,18 +26,14 @@ fn header_line(
     m: CpimMessage,
     head: &mut [u8],
     params: &mut [u8],
-) -> Answer
+) -> Result<CpimMessage, Refusal>
     requires held { message_holds m head.old ≡ true }
     requires text { is_utf8 line.now ≡ true }
     requires scratch { 3376 ≤ length params.old }
-    ensures { (k : Message) → Holds (head_lent m head.old) k → Does (head_lent m head.old) (head_lent result.message head.new) (numbers_of result) (read_header_line (line_reader manner) (lengths (head_lent m head.old)) line.now k) }
+    ensures { (k : Message) → Holds (head_lent m head.old) k → Does (head_lent m head.old) (head_lent (result_unwrap_or result m) head.new) (told result) (read_header_line (line_reader manner) (lengths (head_lent m head.old)) line.now k) }
 {
-    if line.len() == 0 {
-        return Answer {
-            number: 0,
-            carried: 0,
-            message: m,
-        };
+    if line.is_empty() {
+        return Ok(m);
     }
     read_header_line(manner, line, m, head, params)
 }
@@ -47,50 +45,46 @@ pub fn read_headers(
     m: CpimMessage,
     head: &mut [u8],
     params: &mut [u8],
-) -> Answer
+) -> Result<CpimMessage, Refusal>
     requires held { message_holds m head.old ≡ true }
     requires text { is_utf8 section.now ≡ true }
     requires scratch { 3376 ≤ length params.old }
-    ensures { (k : Message) → Holds (head_lent m head.old) k → LinesRead (head_lent result.message head.new) (numbers_of result) (each (read_header_line (line_reader manner) (lengths (head_lent m head.old))) (lines section.now) k) }
+    ensures { (k : Message) → Holds (head_lent m head.old) k → LinesRead (head_lent (result_unwrap_or result m) head.new) (told result) (each (read_header_line (line_reader manner) (lengths (head_lent m head.old))) (lines section.now) k) }
 {
     let crlf = crlf_lines(section);
     let mut so_far = m;
-    let mut at: usize = 0;
+    let mut at = 0;
     loop {
         let piece = cut_line(&section[at..], crlf);
         let end = at + piece.end;
-        let r = header_line(manner, &section[at..end], so_far, head, params);
-        if r.number != 0 {
-            return r;
-        }
-        if piece.last {
-            return r;
-        }
-        so_far = r.message;
-        at += piece.next;
+        so_far = header_line(manner, &section[at..end], so_far, head, params)?;
+        let Some(next) = piece.next else {
+            return Ok(so_far);
+        };
+        at += next;
     }
 }
 
 // The lines of the content section in the same way.
-pub fn read_contents(section: &[u8], m: CpimMessage, head: &mut [u8]) -> Answer
+pub fn read_contents(
+    section: &[u8],
+    m: CpimMessage,
+    head: &mut [u8],
+) -> Result<CpimMessage, Refusal>
     requires held { message_holds m head.old ≡ true }
     requires text { is_utf8 section.now ≡ true }
-    ensures { (k : Message) → Holds (head_lent m head.old) k → LinesRead (head_lent result.message head.new) (numbers_of result) (each (read_content_line (lengths (head_lent m head.old))) (lines section.now) k) }
+    ensures { (k : Message) → Holds (head_lent m head.old) k → LinesRead (head_lent (result_unwrap_or result m) head.new) (told result) (each (read_content_line (lengths (head_lent m head.old))) (lines section.now) k) }
 {
     let crlf = crlf_lines(section);
     let mut so_far = m;
-    let mut at: usize = 0;
+    let mut at = 0;
     loop {
         let line = cut_line(&section[at..], crlf);
         let end = at + line.end;
-        let done = read_content_line(&section[at..end], so_far, head);
-        if done.number != 0 {
-            return done;
-        }
-        if line.last {
-            return done;
-        }
-        so_far = done.message;
-        at += line.next;
+        so_far = read_content_line(&section[at..end], so_far, head)?;
+        let Some(behind) = line.next else {
+            return Ok(so_far);
+        };
+        at += behind;
     }
 }

@@ -1,8 +1,8 @@
 -- A type laid over another in the head store. Assumes nothing.
-use Prim.Native.Nat.{ℕ, zero, suc, ◌-◌, ◌≤◌}
-use mathlib.Core.Path.{◌≡◌, refl, sym, ap, ◌∙◌}
+use Prim.Native.Nat.{ℕ, ◌-◌, ◌≤◌}
+use mathlib.Core.Path.{◌≡◌, sym, ap, ◌∙◌}
 use mathlib.Core.Bool.{true}
-use mathlib.Core.List.{◌∷◌, ◌++◌, append_assoc}
+use mathlib.Core.List.{◌++◌, append_assoc}
 use mathlib.Core.Option.{none}
 use native.Mathlib.Omega.{arith}
 use native.Mathlib.Nat.{zero-add}
@@ -19,21 +19,13 @@ use Rattle.format.proofs.Messages.Parts.{message_parts}
 use Rattle.octets.proofs.Paste.{pasted_start, pasted_pasted}
 use Rattle.read_content_line.specs.Types.{type_bytes}
 
--- a part of zeros is zeros
-zeros_taken : (w k : ℕ) → k ≤ w → take {A = ℕ} k (replicate w 0) ≡ replicate k 0
-zeros_taken w zero h = refl
-zeros_taken zero (suc k) h = absurd (omega arith)
-zeros_taken (suc w) (suc k) h = ap (λ (s : Bytes). 0 ∷ s) (zeros_taken w k (omega arith))
-
 -- the type, and zeros behind it
-pub type_put : (w : ℕ) (t head : Bytes) → w ≡ 256 → length t ≤ w
-    → pasted (length t) (take (w - length t) (replicate w 0)) (pasted 0 t head) ≡ pasted 0 (type_bytes t) head
+pub type_put : (t head : Bytes) → length t ≤ 256 → 256 ≤ length head
+    → pasted (length t) (replicate (256 - length t) 0) (pasted 0 t head) ≡ pasted 0 (type_bytes t) head
 unfolding type_bytes
-type_put w t head e h =
-    ap (λ (z : Bytes). pasted (length t) z (pasted 0 t head)) (zeros_taken w (w - length t) (omega arith))
-    ∙ ap (λ (i : ℕ). pasted i (replicate (w - length t) 0) (pasted 0 t head)) (sym (zero-add (length t)))
-    ∙ pasted_pasted 0 t (replicate (w - length t) 0) head (omega arith)
-    ∙ ap (λ (i : ℕ). pasted 0 (t ++ replicate (i - length t) 0) head) e
+type_put t head h e =
+    ap (λ (i : ℕ). pasted i (replicate (256 - length t) 0) (pasted 0 t head)) (sym (zero-add (length t)))
+    ∙ pasted_pasted 0 t (replicate (256 - length t) 0) head (omega arith)
 
 pub type_long : (t : Bytes) → length t ≤ 256 → length (type_bytes t) ≡ 256
 unfolding type_bytes
@@ -70,7 +62,7 @@ type_over k t head v laid h =
 -- the record and the store with another type
 pub type_laid : (m : CpimMessage) (head t after : Bytes) (k : Message) → Holds (head_lent m head) k → length t ≤ 256
     → after ≡ pasted 0 (type_bytes t) head
-    → head_lent (record { typelen = length t; headers = m.headers; headerlen = m.headerlen; contents = m.contents; contentlen = m.contentlen; bodylen = m.bodylen }) after
+    → head_lent (record m { typelen = length t }) after
     ≡ laid_in (head_lent m head) (with_type k t)
 unfolding laid_in record_of
 type_laid m head t after k held h e =

@@ -7,7 +7,7 @@ use mathlib.Core.List.{[], ◌∷◌}
 use native.Mathlib.Omega.{arith}
 use lib.Dec.{ltb, eqb}
 use lib.ListN.{length, take, get_or}
-use borrow.Author.Tests.{ne_eqb, ltb-true, ltb-false, lt-ltb, le-ltb}
+use borrow.Author.Tests.{ltb-true, ltb-false, lt-ltb, le-ltb}
 use Rattle.format.specs.Bytes.{Bytes, any, semicolon, space, begins, has, up_to, split}
 use Rattle.format.specs.Characters.{is_utf8, trim}
 use Rattle.format.specs.ReadingRfc.{misplaced}
@@ -25,7 +25,7 @@ module _ (right : Bytes) (at : ℕ) (found : at ≡ length (up_to space right)) 
   unfolding misplaced
   no_space h = rw (found_has space right at found ∙ le-ltb at (length right) h) (or-true (not (begins (space ∷ []) right || begins (semicolon ∷ []) right)))
 
-  first_decides : at < length right → misplaced right ≡ not (eqb space (get_or right 0 0) || eqb semicolon (get_or right 0 0))
+  pub first_decides : at < length right → misplaced right ≡ not (eqb space (get_or right 0 0) || eqb semicolon (get_or right 0 0))
   unfolding misplaced begins any
   first_decides h = go right (found_has space right at found ∙ lt-ltb at (length right) h)
     where
@@ -33,16 +33,6 @@ module _ (right : Bytes) (at : ℕ) (found : at ≡ length (up_to space right)) 
           → (not (begins (space ∷ []) s || begins (semicolon ∷ []) s) || not (has space s)) ≡ not (eqb space (get_or s 0 0) || eqb semicolon (get_or s 0 0))
       go [] e = clash e refl
       go (b ∷ s) e = rw (e, and-true (eqb space b), and-true (eqb semicolon b)) (or-false (not (eqb space b || eqb semicolon b)))
-
-  module _ (h : at < length right) where
-    pub space_first : get_or right 0 0 ≡ space → misplaced right ≡ false
-    space_first e = first_decides h ∙ rw e refl
-
-    pub semicolon_first : get_or right 0 0 ≡ semicolon → misplaced right ≡ false
-    semicolon_first e = first_decides h ∙ rw e refl
-
-    pub other_first : (get_or right 0 0 ≡ space → ⊥) → (get_or right 0 0 ≡ semicolon → ⊥) → misplaced right ≡ true
-    other_first a b = first_decides h ∙ rw (ne_eqb space (get_or right 0 0) (λ e. a (sym e)), ne_eqb semicolon (get_or right 0 0) (λ e. b (sym e))) refl
 
   -- where it is not due, a space is there
   pub space_there : misplaced right ≡ false → at < length right

@@ -1,5 +1,7 @@
 -- A header line by either reading, step by step: the colon, what stands in front of the value, the value and the header appended. Assumes
 -- nothing.
+use Rattle.std.specs.Prelude.{Result, Err}
+use Rattle.std.specs.Result.{IsErrAnd}
 use Prim.Native.Nat.{ℕ, ◌+◌, ◌-◌, ◌≤◌, ◌<◌}
 use mathlib.Core.Path.{◌≡◌, refl, sym, ap, ◌∙◌, subst}
 use mathlib.Core.Bool.{true, false, not}
@@ -10,7 +12,7 @@ use borrow.Author.Tests.{lt-ltb, le-ltb}
 use Rattle.format.specs.Bytes.{Bytes, colon, semicolon, has, up_to, past, split}
 use Rattle.format.specs.Characters.{is_utf8}
 use Rattle.format.specs.Escaping.{unescape_by}
-use Rattle.format.specs.Refusals.{Out, accepted, refused, lacks_colon, lacks_space, numbers, table, refuse_if, ◌>>◌, ◌>>=◌}
+use Rattle.format.specs.Refusals.{Out, accepted, refused, lacks_colon, lacks_space, numbers, refuse_if, ◌>>◌, ◌>>=◌}
 use Rattle.format.specs.Validators.{header_name}
 use Rattle.format.specs.Message.{Entry, Header, Message}
 use Rattle.format.specs.Calls.{Stores, append}
@@ -18,17 +20,21 @@ use Rattle.format.specs.Layout.{Lent}
 use Rattle.format.specs.Lending.{lengths, leaves}
 use Rattle.format.specs.Reading.{each, checked_value, read_value, read_name_and_value, read_header, read_line}
 use Rattle.format.specs.ReadingRfc.{read_right, read_header_rfc, line_reader}
+use Rattle.format.specs.Told.{told, meant}
+use Rattle.format.specs.declared.CpimMessage.{CpimMessage}
 use Rattle.format.specs.declared.Numbers.{Numbers}
+use Rattle.format.specs.declared.refusal.Refusal.{Refusal}
+use Rattle.format.specs.declared.refusal.Refusal.TheVariants as code
 use Rattle.format.specs.declared.Manner.{Manner}
 use Rattle.format.specs.declared.Manner.TheVariants.{Source, Rfc}
 use Rattle.format.proofs.Lists.{rest_is}
-use Rattle.format.proofs.Steps.{bind_passed, then_on}
+use Rattle.format.proofs.Steps.{then_passed, then_on}
 use Rattle.format.proofs.Rulesets.{checks}
 use Rattle.format.proofs.Splitting.SplitUtf8.{up_to_utf8, past_utf8}
 use Rattle.octets.proofs.Find.{found_up_to, found_past, found_has}
 use Rattle.message_edit.specs.Edits.{Does}
-use Rattle.message_rules.proofs.MessageChecks.{does_passed}
 use Rattle.read_header_line.specs.Gathered.{Yields}
+use Rattle.read_header_line.proofs.Yielding.{does_ended, does_on}
 use Rattle.read_header_line.specs.HeaderLine.{name_by, params_by, value_by, misplaced_by, param_reader, read_front, append_read}
 
 -- two steps, and what goes on with what they give
@@ -96,46 +102,35 @@ module _ (line : Bytes) (at : ℕ) (found : at ≡ length (up_to colon line)) wh
   pub right_utf8 : is_utf8 line ≡ true → is_utf8 (take (length line - (at + 1)) (drop (at + 1) line)) ≡ true
   right_utf8 u = ap is_utf8 right_is ∙ past_utf8 colon line (omega arith) u
 
-  module _ (r : Manner) (l j : Lent) (n : Numbers) (k : Message) where
-    -- 4
-    pub no_colon : length line ≤ at → n ≡ record { number = 4; carried = 0 } → j ≡ l → Does l j n (read_line (line_reader r) (lengths l) line k)
-    unfolding refuse_if ◌>>◌ leaves numbers table
-    no_colon h e s =
-        let none : has colon line ≡ false = found_has colon line at found ∙ le-ltb at (length line) h in
-        let stops : read_line (line_reader r) (lengths l) line k ≡ refused lacks_colon = steps r line (lengths l) k ∙ rw none refl in
-        subst (Does l j n) (sym stops) (record { answered = e; left = s })
+  -- 4
+  pub no_colon : (r : Manner) (l : Lent) (k : Message) → length line ≤ at → Does l l (told {A = CpimMessage} (Err code.LacksColon)) (read_line (line_reader r) (lengths l) line k)
+  unfolding refuse_if ◌>>◌ leaves numbers told meant
+  no_colon r l k h =
+      let none : has colon line ≡ false = found_has colon line at found ∙ le-ltb at (length line) h in
+      let stops : read_line (line_reader r) (lengths l) line k ≡ refused lacks_colon = steps r line (lengths l) k ∙ rw none refl in
+      subst (Does l l (told {A = CpimMessage} (Err code.LacksColon))) (sym stops) (record { answered = refl; left = refl })
 
-    module _ (there : at < length line) where
-      behind : Does l j n (◌>>=◌ (read_front r (take at line) right_of) (λ ps. append_read (name_by r (take at line)) (checked_value (unescape_by r (value_by r right_of))) ps (lengths l) k))
-          → Does l j n (read_line (line_reader r) (lengths l) line k)
-      behind d =
-          let some : has colon line ≡ true = found_has colon line at found ∙ lt-ltb at (length line) there in
-          subst (Does l j n) (sym (steps r line (lengths l) k))
-          (does_passed l j n (refuse_if (not (has colon line)) lacks_colon) _ (simp checks some)
-          (subst (Does l j n)
-          (λ i. ◌>>=◌ (read_front r (left_is i) (right_is i)) (λ ps. append_read (name_by r (left_is i)) (checked_value (unescape_by r (value_by r (right_is i)))) ps (lengths l) k))
-          d))
+  module _ (r : Manner) (l j : Lent) (k : Message) (there : at < length line) where
+    behind : read_line (line_reader r) (lengths l) line k
+        ≡ ◌>>=◌ (read_front r (take at line) right_of) (λ ps. append_read (name_by r (take at line)) (checked_value (unescape_by r (value_by r right_of))) ps (lengths l) k)
+    behind =
+        let some : has colon line ≡ true = found_has colon line at found ∙ lt-ltb at (length line) there in
+        steps r line (lengths l) k
+        ∙ then_passed (refuse_if (not (has colon line)) lacks_colon) _ (simp checks some)
+        ∙ sym
+        (λ i. ◌>>=◌ (read_front r (left_is i) (right_is i)) (λ ps. append_read (name_by r (left_is i)) (checked_value (unescape_by r (value_by r (right_is i)))) ps (lengths l) k))
 
-      -- what stands in front of the value is refused
-      pub front_refused : (P : List Entry → Type 0) → Yields n (read_front r (take at line) (take (length line - (at + 1)) (drop (at + 1) line))) P
-          → (n.number ≡ 0 → ⊥) → j ≡ l → Does l j n (read_line (line_reader r) (lengths l) line k)
-      unfolding ◌>>=◌ leaves numbers
-      front_refused P y z s = behind (go (read_front r (take at line) right_of) _ y.answered)
-        where
-          go : (o : Out (List Entry)) (f : List Entry → Out Message) → n ≡ numbers o → Does l j n (◌>>=◌ o f)
-          go (accepted ps) f e = absurd (z (ap (λ (q : Numbers). q.number) e))
-          go (refused x) f e = record { answered = e; left = s }
+    -- what stands in front of the value is refused
+    pub front_refused : {R S : Type 0} {P : R → List Entry → Type 0} {e : Refusal}
+        → Yields {R = R} (Err e) (read_front r (take at line) (take (length line - (at + 1)) (drop (at + 1) line))) P
+        → (q : Result S Refusal) → IsErrAnd q (λ d. d ≡ e) → j ≡ l → Does l j (told q) (read_line (line_reader r) (lengths l) line k)
+    front_refused y q s z = subst (Does l j (told q)) (sym behind) (does_ended y _ q s z)
 
-      -- it gives the parameters
-      pub front_read : (ps : List Entry) (name text : Bytes) → read_front r (take at line) (take (length line - (at + 1)) (drop (at + 1) line)) ≡ accepted ps
-          → name ≡ name_by r (take at line) → text ≡ value_by r (take (length line - (at + 1)) (drop (at + 1) line))
-          → Does l j n (append_read name (checked_value (unescape_by r text)) ps (lengths l) k)
-          → Does l j n (read_line (line_reader r) (lengths l) line k)
-      front_read ps name text e a b d =
-          behind
-          (subst (Does l j n)
-          (sym
-          (bind_passed (read_front r (take at line) right_of)
-          (λ ps. append_read (name_by r (take at line)) (checked_value (unescape_by r (value_by r right_of))) ps (lengths l) k) ps e
-          ∙ (λ i. append_read (sym a i) (checked_value (unescape_by r (sym b i))) ps (lengths l) k)))
-          d)
+    -- it gives the parameters
+    pub front_read : (n : Numbers) (ps : List Entry) (name text : Bytes) → read_front r (take at line) (take (length line - (at + 1)) (drop (at + 1) line)) ≡ accepted ps
+        → name ≡ name_by r (take at line) → text ≡ value_by r (take (length line - (at + 1)) (drop (at + 1) line))
+        → Does l j n (append_read name (checked_value (unescape_by r text)) ps (lengths l) k)
+        → Does l j n (read_line (line_reader r) (lengths l) line k)
+    front_read n ps name text e a b d =
+        subst (Does l j n) (sym behind)
+        (does_on _ e (subst (Does l j n) (λ i. append_read (a i) (checked_value (unescape_by r (b i))) ps (lengths l) k) d))

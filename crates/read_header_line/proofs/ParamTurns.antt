@@ -1,6 +1,8 @@
 -- One turn of the loop over the parts between `;`: the next part is read, and the rest of the text has the others. Before the first
 -- turn the room holds no parameter. Assumes nothing.
-use Prim.Native.Nat.{ℕ, ◌+◌, ◌≤◌, ◌<◌}
+use Rattle.std.specs.Prelude.{Result, Err}
+use Rattle.std.specs.Result.{IsErrAnd}
+use Prim.Native.Nat.{ℕ, ◌+◌, ◌-◌, ◌≤◌, ◌<◌}
 use mathlib.Core.Path.{◌≡◌, sym, ap, ◌∙◌, subst}
 use mathlib.Core.Bool.{true}
 use mathlib.Core.List.{List, [], ◌∷◌, append-nil}
@@ -9,19 +11,20 @@ use lib.ListN.{length, take, drop, replicate, length-drop}
 use lib.Seq.{drop-drop}
 use Rattle.format.specs.Bytes.{Bytes, semicolon, up_to, pieces, split, pasted, texts, total, over}
 use Rattle.format.specs.Characters.{is_utf8}
-use Rattle.format.specs.Refusals.{Out, ◌>>=◌}
+use Rattle.format.specs.Refusals.{Out, accepted, ◌>>=◌}
 use Rattle.format.specs.Message.{Entry, need_alone}
 use Rattle.format.specs.Layout.{layout_alone, header_of}
 use Rattle.format.specs.Reading.{each}
-use Rattle.format.specs.declared.Numbers.{Numbers}
+use Rattle.format.specs.declared.refusal.Refusal.{Refusal}
+use Rattle.format.proofs.Lists.{rest_is}
 use Rattle.format.proofs.Steps.{bind_passed}
 use Rattle.format.proofs.Splitting.SplitUtf8.{up_to_utf8, past_utf8}
 use Rattle.format.proofs.Messages.Layout.{laid_alone_lem}
 use Rattle.format.proofs.Messages.Valid.{no_params}
-use Rattle.octets.proofs.Find.{found_within, found_up_to, found_past}
+use Rattle.octets.proofs.Find.{found_up_to, found_past}
 use Rattle.octets.proofs.Paste.{pasted_start}
 use Rattle.read_header_line.specs.Gathered.{Yields, bare, Standing}
-use Rattle.read_header_line.proofs.Yielding.{yields_as, given, ended, last}
+use Rattle.read_header_line.proofs.Yielding.{yields_as, ended, last}
 use Rattle.read_header_line.proofs.Setting.{bare_valid}
 use Rattle.read_header_line.proofs.Parting.{others_more, others_none, first_is}
 
@@ -37,60 +40,49 @@ blank_stands room after e =
     (sym (e ∙ pasted_start (replicate 16 0) room ∙ ap (λ (s : Bytes). over s room) blank_layout))
     (laid_alone_lem room (bare []) (bare_valid [] no_params))
 
--- the text from at on has its first `;` k bytes behind at
-module _ (parts : Bytes) (at k : ℕ) (found : k ≡ length (up_to semicolon (drop at parts))) where
-  pub part_within : at ≤ length parts → at + k ≤ length parts
-  part_within h = omega (arith, found_within semicolon (drop at parts) k found, length-drop at parts)
+-- Of the text t that is left, p stands up to the first `;`, k bytes behind its start, and q from it on.
+pub record Turn (t p q : Bytes) : Type 0 where
+  pub k : ℕ
+  pub found : k ≡ length (up_to semicolon t)
+  pub front : p ≡ take k t
+  pub back : q ≡ drop k t
 
-  pub part_utf8 : is_utf8 (drop at parts) ≡ true → is_utf8 (take k (drop at parts)) ≡ true
-  part_utf8 u = ap is_utf8 (sym (found_up_to semicolon (drop at parts) k found)) ∙ up_to_utf8 semicolon (drop at parts) (omega arith) u
+module _ {t p q : Bytes} (at : Turn t p q) where
+  pub part_utf8 : is_utf8 t ≡ true → is_utf8 p ≡ true
+  part_utf8 u = ap is_utf8 (at.front ∙ sym (found_up_to semicolon t at.k at.found)) ∙ up_to_utf8 semicolon t (omega arith) u
 
-  behind : drop (k + 1) (drop at parts) ≡ drop (at + k + 1) parts
-  behind =
-      let e : at + (k + 1) ≡ at + k + 1 = omega arith in
-      drop-drop (k + 1) at parts ∙ ap (λ (n : ℕ). drop n parts) e
+  -- what stands behind the `;`
+  behind : take (length q - 1) (drop 1 q) ≡ drop (at.k + 1) t
+  behind = rest_is q 1 ∙ ap (drop 1) at.back ∙ drop-drop 1 at.k t
 
-  pub rest_utf8 : is_utf8 (drop at parts) ≡ true → is_utf8 (drop (at + k + 1) parts) ≡ true
-  rest_utf8 u = ap is_utf8 (sym behind) ∙ ap is_utf8 (sym (found_past semicolon (drop at parts) k found)) ∙ past_utf8 semicolon (drop at parts) (omega arith) u
+  pub rest_utf8 : is_utf8 t ≡ true → is_utf8 (take (length q - 1) (drop 1 q)) ≡ true
+  rest_utf8 u = ap is_utf8 (behind ∙ sym (found_past semicolon t at.k at.found)) ∙ past_utf8 semicolon t (omega arith) u
 
   -- ps have been read from the parts before it
-  module _ (step : Bytes → List Entry → Out (List Entry)) (ps : List Entry) (part : Bytes) (so : each step (pieces (split (semicolon ∷ []) parts)) [] ≡ each step (pieces (split (semicolon ∷ []) (drop at parts))) ps)
-      (next : part ≡ take k (drop at parts)) (n : Numbers) (P : List Entry → Type 0) (y : Yields n (step part ps) P) where
-    whole : Out (List Entry)
-    whole = each step (pieces (split (semicolon ∷ []) parts)) []
-
-    turn : whole ≡ ◌>>=◌ (step part ps) (each step (split (semicolon ∷ []) (drop at parts)).rest)
-    unfolding whole each
+  module _ (step : Bytes → List Entry → Out (List Entry)) (ps : List Entry) (whole : Out (List Entry)) (so : whole ≡ each step (pieces (split (semicolon ∷ []) t)) ps) where
+    turn : whole ≡ ◌>>=◌ (step p ps) (each step (split (semicolon ∷ []) t).rest)
+    unfolding each
     turn =
         so
-        ∙ ap (λ (p : Bytes). ◌>>=◌ (step p ps) (each step (split (semicolon ∷ []) (drop at parts)).rest))
-        (first_is (drop at parts) k found ∙ sym next)
+        ∙ ap (λ (s : Bytes). ◌>>=◌ (step s ps) (each step (split (semicolon ∷ []) t).rest)) (first_is t at.k at.found ∙ sym at.front)
 
     -- it is refused
-    pub refused_there : (n.number ≡ 0 → ⊥) → Yields n (each step (pieces (split (semicolon ∷ []) parts)) []) P
-    unfolding whole
-    refused_there z =
-        yields_as n _ P (ended n (step part ps) P y (each step (split (semicolon ∷ []) (drop at parts)).rest) P z) whole turn
+    pub refused_there : {R : Type 0} {P Q : R → List Entry → Type 0} {e : Refusal} → Yields {R = R} (Err e) (step p ps) P → (r : Result R Refusal) → IsErrAnd r (λ d. d ≡ e) → Yields r whole Q
+    refused_there y r s = yields_as (ended y (each step (split (semicolon ∷ []) t).rest) r s) turn
 
     -- it is the last
-    pub ends_there : length parts ≤ at + k → Yields n (each step (pieces (split (semicolon ∷ []) parts)) []) P
-    unfolding whole each
-    ends_there h =
-        let e = others_none (drop at parts) k found (omega (arith, length-drop at parts)) in
-        yields_as n _ P (last n (step part ps) P y) whole
-        (turn ∙ ap (λ (ss : List Bytes). ◌>>=◌ (step part ps) (each step ss)) e)
+    pub ends_there : {R : Type 0} {P : R → List Entry → Type 0} {r : Result R Refusal} → length q < 1 → Yields r (step p ps) P → Yields r whole P
+    unfolding each
+    ends_there h y =
+        let e = others_none t at.k at.found (omega (arith, ap length at.back, length-drop at.k t)) in
+        yields_as (last y) (turn ∙ ap (λ (ss : List Bytes). ◌>>=◌ (step p ps) (each step ss)) e)
 
     -- there are more
-    pub goes_on : at + k < length parts → n.number ≡ 0
-        → (qs : List Entry) × P qs
-        × (each step (pieces (split (semicolon ∷ []) parts)) [] ≡ each step (pieces (split (semicolon ∷ []) (drop (at + k + 1) parts))) qs)
-    unfolding whole
-    goes_on h z =
-        let g = given n (step part ps) P y z in
-        let e = others_more (drop at parts) k found (omega (arith, length-drop at parts)) ∙ ap (λ (s : Bytes). pieces (split (semicolon ∷ []) s)) behind in (
-          g.0,
-          g.2,
-          turn
-              ∙ ap (λ (ss : List Bytes). ◌>>=◌ (step part ps) (each step ss)) e
-              ∙ bind_passed (step part ps) (each step (pieces (split (semicolon ∷ []) (drop (at + k + 1) parts)))) g.0 g.1,
-        )
+    pub goes_on : 1 ≤ length q → (qs : List Entry) → step p ps ≡ accepted qs → whole ≡ each step (pieces (split (semicolon ∷ []) (take (length q - 1) (drop 1 q)))) qs
+    goes_on h qs g =
+        let e =
+        others_more t at.k at.found (omega (arith, ap length at.back, length-drop at.k t))
+        ∙ ap (λ (s : Bytes). pieces (split (semicolon ∷ []) s)) (sym behind) in
+        turn
+        ∙ ap (λ (ss : List Bytes). ◌>>=◌ (step p ps) (each step ss)) e
+        ∙ bind_passed (step p ps) (each step (pieces (split (semicolon ∷ []) (take (length q - 1) (drop 1 q))))) qs g

@@ -1,6 +1,8 @@
 -- One part read: what `set_param_held` does to the header alone in the room is what reading makes of the part, since there is always
 -- room. Assumes nothing.
-use Prim.Native.Nat.{ℕ, ◌≤◌}
+use Rattle.std.specs.Prelude.{Result, Ok, Err}
+use Rattle.std.specs.Result.{result_unwrap_or}
+use Prim.Native.Nat.{◌≤◌}
 use mathlib.Core.Path.{◌≡◌, refl, sym, ap, ◌∙◌, subst}
 use mathlib.Core.Bool.{true, false, not}
 use mathlib.Core.List.{List, []}
@@ -17,7 +19,8 @@ use Rattle.format.specs.Layout.{HoldsAlone}
 use Rattle.format.specs.Lending.{LentHeader, leaves_header, laid_alone}
 use Rattle.format.specs.Reading.{read_param}
 use Rattle.format.specs.ReadingRfc.{read_param_rfc}
-use Rattle.format.specs.declared.Numbers.{Numbers}
+use Rattle.format.specs.Told.{told, meant, checked}
+use Rattle.format.specs.declared.refusal.Refusal.{Refusal}
 use Rattle.format.specs.declared.CpimHeader.{CpimHeader}
 use Rattle.format.specs.declared.Manner.{Manner}
 use Rattle.format.specs.declared.Manner.TheVariants.{Source, Rfc}
@@ -33,7 +36,7 @@ use Rattle.header.specs.Alone.{alone_in, set_in, DoesAlone}
 use Rattle.header.proofs.ParamSizes.{entries_bytes}
 use Rattle.read_header_line.specs.Gathered.{Yields, bare, Standing}
 use Rattle.read_header_line.specs.HeaderLine.{taken_by, lacking_by, param_reader}
-use Rattle.read_header_line.proofs.Yielding.{yields_as}
+use Rattle.read_header_line.proofs.Yielding.{yields, yields_as}
 
 -- an empty value is within limits, and so is the header of these parameters
 empty_passes : passes (header_value []) ≡ true
@@ -48,32 +51,35 @@ pub bare_need : (ps : List Entry) → Params ps → need_alone (bare ps) ≤ 337
 unfolding need_alone
 bare_need ps w = omega (arith, entries_bytes ps w.each, w.few)
 
-module _ (h r : CpimHeader) (before after : Bytes) (n : Numbers) (enough : 3376 ≤ length before) where
-  laid : (ps : List Entry) → Params ps → DoesAlone (alone_in h before) (alone_in r after) n (if_room_alone (length before) (bare ps))
-      → Yields n (accepted ps) (Standing r after)
+module _ (h : CpimHeader) (result : Result CpimHeader Refusal) (before after : Bytes) (enough : 3376 ≤ length before) where
+  laid : (ps : List Entry) → Params ps → DoesAlone (alone_in h before) (alone_in (result_unwrap_or result h) after) (told result) (if_room_alone (length before) (bare ps))
+      → Yields result (accepted ps) (λ k. Standing k after)
   unfolding if_room_alone leaves_header laid_alone numbers
   laid ps w d =
       let passed = then_passed (room (length before) (need_alone (bare ps))) (accepted (bare ps)) (room_enough (length before) (need_alone (bare ps)) (omega (arith, bare_need ps w))) in
-      let left : alone_in r after ≡ laid_alone before (bare ps) = d.left ∙ ap (leaves_header (alone_in h before)) passed in
+      let left : alone_in (result_unwrap_or result h) after ≡ laid_alone before (bare ps) = d.left ∙ ap (leaves_header (alone_in h before)) passed in
       record {
         answered = d.answered ∙ ap numbers passed;
-        there = λ qs e. subst (Standing r after) (accepted_same ps qs e) (subst (λ (l : LentHeader). HoldsAlone l.header l.store (bare ps)) (sym left) (laid_alone_lem before (bare ps) (bare_valid ps w)));
+        there = λ k qs o e. subst (Standing k after) (accepted_same ps qs e)
+            (subst (λ (l : LentHeader). HoldsAlone l.header l.store (bare ps))
+            (sym left ∙ ap (λ (r : Result CpimHeader Refusal). alone_in (result_unwrap_or r h) after) o)
+            (laid_alone_lem before (bare ps) (bare_valid ps w)));
       }
 
   -- a parameter set
   module _ (name value : Bytes) (ps : List Entry) where
     pub set_there : is_utf8 name ≡ true → is_utf8 value ≡ true → Standing h before ps
-        → DoesAlone (alone_in h before) (alone_in r after) n (set_in name value (length before) (bare ps))
-        → Yields n (set_param name value ps) (Standing r after)
+        → DoesAlone (alone_in h before) (alone_in (result_unwrap_or result h) after) (told result) (set_in name value (length before) (bare ps))
+        → Yields result (set_param name value ps) (λ k. Standing k after)
     unfolding set_in add_param ◌>>=◌ numbers
     set_there u v s d =
         go (set_param name value ps) (λ qs e. set_param_within name value ps qs u v (alone_parts (bare ps) s.within).params e) d
       where
         go : (o : Out (List Entry)) → ((qs : List Entry) → o ≡ accepted qs → Params qs)
-            → DoesAlone (alone_in h before) (alone_in r after) n (◌>>=◌ (◌>>=◌ o (λ qs. accepted (bare qs))) (if_room_alone (length before)))
-            → Yields n o (Standing r after)
+            → DoesAlone (alone_in h before) (alone_in (result_unwrap_or result h) after) (told result) (◌>>=◌ (◌>>=◌ o (λ qs. accepted (bare qs))) (if_room_alone (length before)))
+            → Yields result o (λ k. Standing k after)
         go (accepted qs) f e = laid qs (f qs refl) e
-        go (refused x) f e = record { answered = e.answered; there = λ qs q. refused_accepted x qs q }
+        go (refused x) f e = record { answered = e.answered; there = λ k qs z q. refused_accepted x qs q }
 
 -- What the readings make of a part: with `=` a parameter is set, without it nothing, or 27 is answered.
 part_parted : (r : Manner) (part : Bytes) (ps : List Entry) → has equals part ≡ true
@@ -88,27 +94,27 @@ taken_utf8 Source s u = trim_utf8 is_white s u
 taken_utf8 Rfc s u = u
 
 -- a part with `=`
-pub part_set : (h q : CpimHeader) (before after : Bytes) (n : Numbers) → 3376 ≤ length before
+pub part_set : (h : CpimHeader) (result : Result CpimHeader Refusal) (before after : Bytes) → 3376 ≤ length before
     → (r : Manner) (part name value : Bytes) (ps : List Entry) → is_utf8 part ≡ true → has equals part ≡ true
     → name ≡ taken_by r (up_to equals part) → value ≡ taken_by r (past equals part) → Standing h before ps
-    → DoesAlone (alone_in h before) (alone_in q after) n (set_in name value (length before) (bare ps))
-    → Yields n (param_reader r part ps) (Standing q after)
-part_set h q before after n enough r part name value ps u e a b s d =
-    yields_as n (set_param name value ps) (Standing q after)
-    (set_there h q before after n enough name value ps
+    → DoesAlone (alone_in h before) (alone_in (result_unwrap_or result h) after) (told result) (set_in name value (length before) (bare ps))
+    → Yields result (param_reader r part ps) (λ k. Standing k after)
+part_set h result before after enough r part name value ps u e a b s d =
+    yields_as
+    (set_there h result before after enough name value ps
     (ap is_utf8 a ∙ taken_utf8 r (up_to equals part) (up_to_utf8 equals part (omega arith) u))
     (ap is_utf8 b ∙ taken_utf8 r (past equals part) (past_utf8 equals part (omega arith) u)) s d)
-    (param_reader r part ps) (part_parted r part ps e ∙ rw (a, b) refl)
+    (part_parted r part ps e ∙ rw (a, b) refl)
 
--- a part without
-pub part_lacking : (r : Manner) (h : CpimHeader) (store part : Bytes) (ps : List Entry) (i : ℕ) → i ≡ lacking_by r → has equals part ≡ false → Standing h store ps
-    → Yields (record { number = i; carried = 0 }) (param_reader r part ps) (Standing h store)
-unfolding read_param read_param_rfc refuse_if ◌>>◌ numbers table
-part_lacking Source h store part ps i l e s =
-    yields_as _ (accepted ps) (Standing h store)
-    (record { answered = ap (λ (j : ℕ). record { number = j; carried = 0 }) l; there = λ qs q. subst (Standing h store) (accepted_same ps qs q) s })
-    (read_param part ps) (rw e refl)
-part_lacking Rfc h store part ps i l e s =
-    yields_as _ (refused param_lacks_equals) (Standing h store)
-    (record { answered = ap (λ (j : ℕ). record { number = j; carried = 0 }) l; there = λ qs q. refused_accepted param_lacks_equals qs q })
-    (read_param_rfc part ps) (rw e refl)
+-- A part without: it is skipped, or refused.
+module _ (part : Bytes) (ps : List Entry) (lacks : has equals part ≡ false) where
+  pub part_skipped : (r : Manner) (u : Unit {0}) (h : CpimHeader) (store : Bytes) → checked (Ok u) ≡ lacking_by r → Standing h store ps
+      → Yields (Ok h) (param_reader r part ps) (λ k. Standing k store)
+  unfolding checked read_param
+  part_skipped Source u h store e s = yields ps (rw lacks refl) s
+  part_skipped Rfc u h store e s = refused_accepted param_lacks_equals u (sym e)
+
+  pub part_refused : (r : Manner) (e : Refusal) → checked {A = Unit {0}} (Err e) ≡ lacking_by r → numbers (param_reader r part ps) ≡ table (meant e)
+  unfolding checked read_param_rfc refuse_if ◌>>◌ numbers
+  part_refused Source e h = refused_accepted (meant e) tt h
+  part_refused Rfc e h = rw lacks (ap numbers (sym h))

@@ -1,110 +1,110 @@
--- The value of a header line read, and the header appended: 5, 10, then what `append_held` does. Assumes nothing.
-use Prim.Native.Nat.{ℕ, ◌^◌, ◌≤◌, ◌<◌}
-use mathlib.Core.Path.{◌≡◌, refl, sym, ap, ◌∙◌, subst}
-use mathlib.Core.Bool.{true, false, false≢true}
-use mathlib.Core.List.{List, []}
+-- The value of a header line read: 5, 10. Assumes nothing.
+use Rattle.std.specs.Prelude.{Result, Some, None, Ok, Err, is_some}
+use Rattle.std.specs.Result.{IsErrAnd}
+use Rattle.std.specs.Prelude as std
+use Rattle.std.specs.Option.{ok_or}
+use Prim.Native.Nat.{ℕ, ◌≤◌, ◌<◌}
+use mathlib.Core.Path.{◌≡◌, refl, sym, ap, ◌∙◌}
+use mathlib.Core.List.{List}
 use mathlib.Core.Option.{Option, none, some}
 use native.Mathlib.Omega.{arith}
 use lib.ListN.{length}
-use lib.Seq.{take_all}
-use Rattle.format.specs.Bytes.{Bytes, backslash, up_to}
+use Rattle.format.specs.Bytes.{Bytes}
 use Rattle.format.specs.Escaping.{unescape_by}
 use Rattle.format.specs.Limits.{max_value}
-use Rattle.format.specs.Refusals.{refused, bad_escape, value_too_long, numbers, table, ◌carrying◌, ◌>>◌, ◌>>=◌}
+use Rattle.format.specs.Refusals.{Out, passes, refused, accepted, bad_escape, value_too_long, ◌>>◌}
 use Rattle.format.specs.Validators.{header_value}
 use Rattle.format.specs.Message.{Entry, Header, Message}
 use Rattle.format.specs.Calls.{Stores, append}
 use Rattle.format.specs.Layout.{Lent}
-use Rattle.format.specs.Lending.{head_lent, lengths, numbers_of, leaves}
 use Rattle.format.specs.Reading.{checked_value}
+use Rattle.format.specs.Told.{meant, checked, told}
 use Rattle.format.specs.declared.Numbers.{Numbers}
-use Rattle.format.specs.declared.CpimMessage.{CpimMessage}
-use Rattle.format.specs.declared.Answer.{Answer}
 use Rattle.format.specs.declared.Manner.{Manner}
-use Rattle.format.proofs.Steps.{then_bind, at_most_passed}
-use Rattle.format.proofs.Answers.{carried}
-use Rattle.format.proofs.Escaping.Unescape.{behind_nil}
+use Rattle.format.specs.declared.refusal.Refusal.{Refusal}
+use Rattle.format.specs.declared.refusal.Refusal.TheVariants as code
+use Rattle.format.proofs.Steps.{then_passed, at_most_passed}
+use Rattle.format.proofs.Answers.{over_limit}
 use Rattle.unescape.specs.Reads.{measured, value_of}
-use Rattle.unescape.specs.declared.Unescaped.{Unescaped}
-use Rattle.unescape.proofs.Stretches.{read_end}
+use Rattle.store_splice.specs.Notations.{Sized}
+use Rattle.store_splice.specs.declared.Notation.TheVariants.{Escaped}
 use Rattle.message_edit.specs.Edits.{Does, Spelt}
-use Rattle.message_rules.proofs.MessageChecks.{does_passed, does_over, handed_on}
+use Rattle.message_rules.proofs.MessageChecks.{value_short}
 use Rattle.read_header_line.specs.HeaderLine.{append_read, Tail}
+use Rattle.read_header_line.specs.Gathered.{Yields, Sizes}
+use Rattle.read_header_line.proofs.Yielding.{ok_err, yields, refuses, check_passed, check_stops, does_ended, does_on}
 
--- a text without a backslash reads as it is
-pub plain_reads : (r : Manner) (s : Bytes) (k : ℕ) → k ≡ length (up_to backslash s) → length s ≤ k → unescape_by r s ≡ some s
-plain_reads r s k found h =
-    read_end r s 0 k found [] (sym (behind_nil (unescape_by r s))) (omega arith) ∙ ap some (take_all k s h)
+-- what `ok_or` made an error of was none
+pub ok_or_err : {A : Type 0} (o : std.Option A) (x e : Refusal) → Err e ≡ ok_or o x → (None ≡ o) × (x ≡ e)
+ok_or_err None x e h = (refl, let z : x ≡ e = cc in z)
+ok_or_err (Some a) x e h = ok_err a e (sym h)
 
--- What was measured of a text.
-module _ (o : Option Bytes) (u : Unescaped) (e : u ≡ measured o) where
-  pub not_read : u.ok ≡ false → o ≡ none
-  not_read f = go o (ap (λ (w : Unescaped). w.ok) (sym e) ∙ f)
-    where
-      go : (p : Option Bytes) → (measured p).ok ≡ false → p ≡ none
-      go none h = refl
-      go (some v) h = absurd (false≢true (sym h))
+pub ok_or_ok : {A : Type 0} (o : std.Option A) (x : Refusal) (a : A) → Ok a ≡ ok_or o x → Some a ≡ o
+ok_or_ok None x a h = ok_err a x h
+ok_or_ok (Some b) x a h = let z : a ≡ b = cc in ap (λ (c : _). Some c) z
 
-  pub is_read : u.ok ≡ true → o ≡ some (value_of o)
-  is_read t = go o (ap (λ (w : Unescaped). w.ok) (sym e) ∙ t)
-    where
-      go : (p : Option Bytes) → (measured p).ok ≡ true → p ≡ some (value_of p)
-      go none h = absurd (false≢true h)
-      go (some v) h = refl
-
-  pub length_is : u.len ≡ length (value_of o)
-  length_is = ap (λ (w : Unescaped). w.len) e ∙ go o
-    where
-      go : (p : Option Bytes) → (measured p).len ≡ length (value_of p)
-      go none = refl
-      go (some v) = refl
-
--- The answer by what the text reads as.
-module _ (name : Bytes) (ps : List Entry) (stores : Stores) (k : Message) (o : Option Bytes) where
-  abbrev with_value : Bytes → Header
-  with_value v = record { name = name; value = v; params = ps }
-
-  read_none : o ≡ none → append_read name (checked_value o) ps stores k ≡ refused bad_escape
-  unfolding append_read checked_value ◌>>=◌
-  read_none e = rw e refl
-
-  read_some : (v : Bytes) → o ≡ some v → append_read name (checked_value o) ps stores k ≡ ◌>>◌ (header_value v) (append (with_value v) stores k)
-  unfolding append_read checked_value
-  read_some v e = rw e (then_bind (header_value v) v (λ w. append (with_value w) stores k))
-
-module _ (m : CpimMessage) (head name : Bytes) (ps : List Entry) (k : Message) (o : Option Bytes) where
-  abbrev l : Lent
-  l = head_lent m head
-
+-- By what the text reads as.
+module _ (o : Option Bytes) where
   -- 5
-  pub unread : o ≡ none → Does (head_lent m head) (head_lent m head) (record { number = 5; carried = 0 }) (append_read name (checked_value o) ps (lengths (head_lent m head)) k)
-  unfolding leaves numbers table
-  unread e = subst (Does l l (record { number = 5; carried = 0 })) (sym (read_none name ps (lengths l) k o e)) (record { answered = refl; left = refl })
+  pub unread : None ≡ measured o → checked_value o ≡ refused bad_escape
+  unfolding checked_value
+  unread h = ap checked_value (go o h)
+    where
+      go : (p : Option Bytes) → None ≡ measured p → p ≡ none
+      go none h = refl
+      go (some v) h = absurd (let z : ◌≡◌ {A = ℕ} 0 1 = cc in omega arith)
 
-  module _ (v : Bytes) (reads : o ≡ some v) where
-    checked : (j : Lent) (n : Numbers) → Does l j n (◌>>◌ (header_value v) (append (with_value name ps (lengths l) k o v) (lengths l) k))
-        → Does l j n (append_read name (checked_value o) ps (lengths l) k)
-    checked j n d = subst (Does l j n) (sym (read_some name ps (lengths l) k o v reads)) d
+  module _ (n : ℕ) (h : Some n ≡ measured o) where
+    length_is : (v : Bytes) × (o ≡ some v) × (n ≡ length v)
+    length_is = go o h
+      where
+        go : (p : Option Bytes) → Some n ≡ measured p → (v : Bytes) × (p ≡ some v) × (n ≡ length v)
+        go none h = absurd (let z : ◌≡◌ {A = ℕ} 0 1 = cc in omega arith)
+        go (some v) h = (v, refl, cc)
 
     -- 10
-    pub too_long_lem : (n : ℕ) → n ≡ length v → max_value < n → n < 2 ^ 64
-        → Does (head_lent m head) (head_lent m head) (record { number = 10; carried = n }) (append_read name (checked_value o) ps (lengths (head_lent m head)) k)
-    unfolding header_value table
-    too_long_lem n e long fits =
-        checked l (record { number = 10; carried = n })
-        (does_over l l (record { number = 10; carried = n }) max_value value_too_long (length v) _ (omega (arith, e, long))
-        (sym (carried 10 n fits) ∙ ap (λ (i : ℕ). 10 carrying i) e) refl)
+    pub too_long_lem : {P : ℕ → Bytes → Type 0} → max_value < n → Yields (Err (code.ValueTooLong n)) (checked_value o) P
+    unfolding checked_value header_value meant ◌>>◌
+    too_long_lem l =
+        let v = length_is in
+        refuses (code.ValueTooLong n)
+        (ap checked_value v.1 ∙ rw (over_limit max_value value_too_long (length v.0) (omega (arith, v.2)), ← v.2) refl)
 
-    pub refused_long : (r : Answer) (n : Numbers) → r ≡ record { number = n.number; carried = n.carried; message = m } → n ≡ numbers (header_value v) → (n.number ≡ 0 → ⊥)
-        → Does (head_lent m head) (head_lent r.message head) (numbers_of r) (append_read name (checked_value o) ps (lengths (head_lent m head)) k)
-    refused_long r n e a z = checked (head_lent r.message head) (numbers_of r) (handed_on m head r n (header_value v) _ e a z)
+    pub value_stands : n ≤ max_value → Yields (Ok n) (checked_value o) (Sizes o)
+    unfolding checked_value header_value
+    value_stands l =
+        let v = length_is in
+        yields v.0
+        (ap checked_value v.1 ∙ then_passed (header_value v.0) (accepted v.0) (at_most_passed max_value value_too_long (length v.0) (omega (arith, v.2))))
+        (record { reads = v.1; size_is = v.2; short = l })
 
-    -- appended; the parameters' bytes are spelt out where they stand
-    pub read_appended : (r : CpimMessage) (after : Bytes) (n : Numbers) (tail : Bytes) (params : ℕ) → length v ≤ max_value → Tail ps params tail
-        → ((x : Header) → Spelt x name v params tail → Does (head_lent m head) (head_lent r after) n (append x (lengths (head_lent m head)) k))
-        → Does (head_lent m head) (head_lent r after) n (append_read name (checked_value o) ps (lengths (head_lent m head)) k)
-    unfolding header_value
-    read_appended r after n tail params short t does =
-        checked (head_lent r after) n
-        (does_passed l (head_lent r after) n (header_value v) _ (at_most_passed max_value value_too_long (length v) short)
-        (does (with_value name ps (lengths l) k o v) (record { name_is = refl; value_is = refl; params_are = t.many_are; tail_is = t.bytes_are })))
+  -- A plain text, by what is said of it.
+  module _ (text : Bytes) (plain : o ≡ some text) where
+    pub plain_refused : {R : Type 0} {P : R → Bytes → Type 0} (e : Refusal) → checked {A = Unit {0}} (Err e) ≡ header_value text → Yields (Err e) (checked_value o) P
+    unfolding checked_value
+    plain_refused e h = refuses e (ap checked_value plain ∙ check_stops (header_value text) _ e h)
+
+    pub plain_passed : (u : Unit {0}) → checked (Ok u) ≡ header_value text → checked_value o ≡ accepted text
+    unfolding checked_value
+    plain_passed u h = ap checked_value plain ∙ check_passed (header_value text) _ u h
+
+    pub plain_short : (u : Unit {0}) → checked (Ok u) ≡ header_value text → length text ≤ max_value
+    unfolding checked passes
+    plain_short u h = value_short text (ap passes (sym h))
+
+-- what is asked of an entry whose value was read
+pub escaped_sized : (r : Manner) (text : Bytes) {v : Bytes} {size : ℕ} → Sizes (unescape_by r text) size v → Sized (Escaped r) text size
+escaped_sized r text s = (ap (λ (p : Option Bytes). is_some (measured p)) s.reads, s.size_is ∙ ap (λ (p : Option Bytes). length (value_of p)) (sym s.reads))
+
+-- The header of a name and parameters, appended to what l holds.
+module _ (name : Bytes) (ps : List Entry) (stores : Stores) (k : Message) (o : Out Bytes) {l j : Lent} where
+  pub append_refused : {R S : Type 0} {P : R → Bytes → Type 0} {e : Refusal} → Yields {R = R} (Err e) o P → (q : Result S Refusal) → IsErrAnd q (λ d. d ≡ e) → j ≡ l
+      → Does l j (told q) (append_read name o ps stores k)
+  unfolding append_read
+  append_refused y q s z = does_ended y _ q s z
+
+  pub append_given : {v w tail : Bytes} {params : ℕ} {n : Numbers} → o ≡ accepted v → w ≡ v → Tail ps params tail
+      → ((x : Header) → Spelt x name w params tail → Does l j n (append x stores k))
+      → Does l j n (append_read name o ps stores k)
+  unfolding append_read
+  append_given {v} e z t does = does_on _ e (does (record { name = name; value = v; params = ps }) (record { name_is = refl; value_is = sym z; params_are = t.many_are; tail_is = t.bytes_are }))

@@ -3,7 +3,7 @@
 use Rattle.std.specs.Prelude.{ℕ, ◌≡◌, Bool, false, List, [], ◌∷◌, length}
 use Rattle.format.specs.Bytes.{Bytes, semicolon, space, up_to, past, split, texts}
 use Rattle.format.specs.Characters.{trim}
-use Rattle.format.specs.Refusals.{lacks_space, Out, refuse_if, ◌>>=◌, ◌>>◌}
+use Rattle.format.specs.Refusals.{lacks_space, param_lacks_equals, Out, refused, Check, pass, refuse_if, ◌>>=◌, ◌>>◌}
 use Rattle.format.specs.Validators.{header_name}
 use Rattle.format.specs.Message.{Entry, Message}
 use Rattle.format.specs.Calls.{Stores, append}
@@ -43,10 +43,10 @@ abbrev pub taken_by : Manner → Bytes → Bytes
 taken_by Source s = trim s
 taken_by Rfc s = s
 
--- the number that a part without `=` is answered with: it is skipped, or by the RFC refused
-abbrev pub lacking_by : Manner → ℕ
-lacking_by Source = 0
-lacking_by Rfc = 27
+-- a part without `=`: it is skipped, or by the RFC refused
+abbrev pub lacking_by : Manner → Check
+lacking_by Source = pass
+lacking_by Rfc = refused param_lacks_equals
 
 -- how a parameter is read
 abbrev pub param_reader : Manner → Bytes → List Entry → Out (List Entry)

@@ -9,13 +9,15 @@ mod parts;
 mod values;
 
 ghost use Rattle.std.specs.Prelude.{◌≡◌, true, ◌≤◌, length};
+ghost use Rattle.std.specs.Result.{result_unwrap_or};
 ghost use Rattle.format.specs.Bytes.{Bytes, semicolon, up_to};
 ghost use Rattle.format.specs.Characters.{is_utf8};
 ghost use Rattle.format.specs.Message.{Message};
 ghost use Rattle.format.specs.Layout.{Holds};
-ghost use Rattle.format.specs.Lending.{head_lent, lengths, numbers_of, header_numbers};
+ghost use Rattle.format.specs.Lending.{head_lent, lengths};
 ghost use Rattle.format.specs.Reading.{read_line};
 ghost use Rattle.format.specs.ReadingRfc.{line_reader};
+ghost use Rattle.format.specs.Told.{told};
 ghost use Rattle.store_check.specs.Holding.{message_holds};
 ghost use Rattle.message_edit.specs.Edits.{Does};
 ghost use Rattle.read_header_line.specs.Gathered.{Yields, Gathered};
@@ -24,24 +26,9 @@ ghost use Rattle.read_header_line.specs.HeaderLine.{name_by, params_by, space_by
 use crate::params::read_params;
 use crate::parts::{misplaced_by, name_of, params_of, space_at, value_of};
 use crate::values::append_read;
-use format::{Answer, CpimHeader, CpimMessage, HeaderAnswer, Manner};
+use format::{CpimHeader, CpimMessage, Manner, Refusal};
 use octets::finding::find_byte;
 use validate::validate_header_name;
-
-// A refusal of what stands in front of the value.
-fn no_params(number: u64, carried: u64) -> HeaderAnswer
-    ensures { result ≡ record { number = number; carried = carried; header = record { valuelen = 0; params = 0; size = 16 } } }
-{
-    HeaderAnswer {
-        number: number,
-        carried: carried,
-        header: CpimHeader {
-            valuelen: 0,
-            params: 0,
-            size: 16,
-        },
-    }
-}
 
 // What stands in front of the value: the name is checked, then 28, then the parameters of the text front are read into the room.
 fn scan_front(
@@ -52,19 +39,16 @@ fn scan_front(
     front: &[u8],
     stop: usize,
     room: &mut [u8],
-) -> HeaderAnswer
+) -> Result<CpimHeader, Refusal>
     requires space { at ≡ space_by manner right.now }
     requires stops { stop ≡ length (up_to semicolon front.now) }
     requires enough { 3376 ≤ length room.old }
     requires text { is_utf8 front.now ≡ true }
-    ensures { (left : Bytes) → name.now ≡ name_by manner left → front.now ≡ params_by manner left right.now → Yields (header_numbers result) (read_front manner left right.now) (Gathered result.header room.new) }
+    ensures { (left : Bytes) → name.now ≡ name_by manner left → front.now ≡ params_by manner left right.now → Yields result (read_front manner left right.now) (λ h. Gathered h room.new) }
 {
-    let n = validate_header_name(name);
-    if n.number != 0 {
-        return no_params(n.number, n.carried);
-    }
+    validate_header_name(name)?;
     if misplaced_by(manner, right, at) {
-        return no_params(28, 0);
+        return Err(Refusal::LacksSpace);
     }
     read_params(manner, front, stop, room)
 }
@@ -76,37 +60,23 @@ pub fn read_header_line(
     m: CpimMessage,
     head: &mut [u8],
     params: &mut [u8],
-) -> Answer
+) -> Result<CpimMessage, Refusal>
     requires held { message_holds m head.old ≡ true }
     requires text { is_utf8 line.now ≡ true }
     requires scratch { 3376 ≤ length params.old }
-    ensures { (k : Message) → Holds (head_lent m head.old) k → Does (head_lent m head.old) (head_lent result.message head.new) (numbers_of result) (read_line (line_reader manner) (lengths (head_lent m head.old)) line.now k) }
+    ensures { (k : Message) → Holds (head_lent m head.old) k → Does (head_lent m head.old) (head_lent (result_unwrap_or result m) head.new) (told result) (read_line (line_reader manner) (lengths (head_lent m head.old)) line.now k) }
 {
     let colon = find_byte(line, b':');
     if line.len() <= colon {
-        return Answer {
-            number: 4,
-            carried: 0,
-            message: m,
-        };
+        return Err(Refusal::LacksColon);
     }
-    let next = colon + 1;
     let left = &line[..colon];
-    let right = &line[next..];
+    let right = &line[colon + 1..];
     let at = space_at(manner, right);
     let front = params_of(manner, left, right, at);
     let stop = find_byte(front, b';');
     let name = name_of(manner, left, stop);
-    let scanned = scan_front(manner, name, right, at, front, stop, params);
-    if scanned.number != 0 {
-        return Answer {
-            number: scanned.number,
-            carried: scanned.carried,
-            message: m,
-        };
-    }
-    let h = scanned.header;
-    let size = h.size;
+    let h = scan_front(manner, name, right, at, front, stop, params)?;
     append_read(
         manner,
         m,
@@ -114,6 +84,6 @@ pub fn read_header_line(
         name,
         value_of(manner, right, at),
         h.params,
-        &params[16..size],
+        &params[16..h.size],
     )
 }

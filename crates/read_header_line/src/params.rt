@@ -6,32 +6,44 @@ ghost use Rattle.std.specs.Prelude.{◌≡◌, true, List, [], ◌∷◌, ◌≤
 ghost use Rattle.format.specs.Bytes.{semicolon, up_to, pieces, split};
 ghost use Rattle.format.specs.Characters.{is_utf8};
 ghost use Rattle.format.specs.Message.{Entry};
-ghost use Rattle.format.specs.Lending.{header_numbers};
 ghost use Rattle.format.specs.Reading.{each};
 ghost use Rattle.read_header_line.specs.Gathered.{Yields, Standing, Gathered};
 ghost use Rattle.read_header_line.specs.HeaderLine.{param_reader};
 
 use crate::parts::{lacking, taken};
-use format::{CpimHeader, HeaderAnswer, Manner};
+use format::{CpimHeader, Manner, Refusal};
 use header::set_param_held;
 use octets::copy_at;
 use octets::finding::find_byte;
 use sections::fields::{has, past, up_to};
 
+// A header alone with an empty value and no parameter.
+fn none_read() -> CpimHeader
+    ensures { result ≡ record { valuelen = 0; params = 0; size = 16 } }
+{
+    CpimHeader {
+        valuelen: 0,
+        params: 0,
+        size: 16,
+    }
+}
+
 // A part with `=` is name and value, by the first reading trimmed, checked, then 21 even when replacing. A part without `=` is skipped, or
 // by the second reading refused.
-fn read_param(manner: Manner, h: CpimHeader, room: &mut [u8], part: &[u8]) -> HeaderAnswer
+fn read_param(
+    manner: Manner,
+    h: CpimHeader,
+    room: &mut [u8],
+    part: &[u8],
+) -> Result<CpimHeader, Refusal>
     requires standing { (ps : List Entry) × Standing h room.old ps }
     requires enough { 3376 ≤ length room.old }
     requires text { is_utf8 part.now ≡ true }
-    ensures { (ps : List Entry) → Standing h room.old ps → Yields (header_numbers result) (param_reader manner part.now ps) (Standing result.header room.new) }
+    ensures { (ps : List Entry) → Standing h room.old ps → Yields result (param_reader manner part.now ps) (λ k. Standing k room.new) }
 {
     if !has(part, b'=') {
-        return HeaderAnswer {
-            number: lacking(manner),
-            carried: 0,
-            header: h,
-        };
+        lacking(manner)?;
+        return Ok(h);
     }
     set_param_held(
         h,
@@ -42,53 +54,38 @@ fn read_param(manner: Manner, h: CpimHeader, room: &mut [u8], part: &[u8]) -> He
 }
 
 // The parameters of the parts between `;`, one after another, from none on.
-fn read_param_parts(manner: Manner, parts: &[u8], room: &mut [u8]) -> HeaderAnswer
+fn read_param_parts(manner: Manner, parts: &[u8], room: &mut [u8]) -> Result<CpimHeader, Refusal>
     requires enough { 3376 ≤ length room.old }
     requires text { is_utf8 parts.now ≡ true }
-    ensures { Yields (header_numbers result) (each (param_reader manner) (pieces (split (semicolon ∷ []) parts.now)) []) (Standing result.header room.new) }
+    ensures { Yields result (each (param_reader manner) (pieces (split (semicolon ∷ []) parts.now)) []) (λ h. Standing h room.new) }
 {
-    let zeros = [0u8; 16];
-    copy_at(room, 0, &zeros);
-    let mut h = CpimHeader {
-        valuelen: 0,
-        params: 0,
-        size: 16,
-    };
-    let mut at = 0;
+    copy_at(room, 0, &[0; 16]);
+    let mut h = none_read();
+    let mut rest = parts;
     loop {
-        let n = find_byte(&parts[at..], b';');
-        let end = at + n;
-        let done = read_param(manner, h, room, &parts[at..end]);
-        if done.number != 0 {
-            return done;
-        }
-        if parts.len() <= end {
-            return done;
-        }
-        let next = done.header;
-        h = next;
-        at = end + 1;
+        let (part, found) = rest.split_at(find_byte(rest, b';'));
+        h = read_param(manner, h, room, part)?;
+        let [_, behind @ ..] = found else {
+            return Ok(h);
+        };
+        rest = behind;
     }
 }
 
 // The parameters of a text, which stand behind its first stop bytes. Without a `;` there are none, and the room is left as it is.
-pub fn read_params(manner: Manner, front: &[u8], stop: usize, room: &mut [u8]) -> HeaderAnswer
+pub fn read_params(
+    manner: Manner,
+    front: &[u8],
+    stop: usize,
+    room: &mut [u8],
+) -> Result<CpimHeader, Refusal>
     requires stops { stop ≡ length (up_to semicolon front.now) }
     requires enough { 3376 ≤ length room.old }
     requires text { is_utf8 front.now ≡ true }
-    ensures { Yields (header_numbers result) (each (param_reader manner) (split (semicolon ∷ []) front.now).rest []) (Gathered result.header room.new) }
+    ensures { Yields result (each (param_reader manner) (split (semicolon ∷ []) front.now).rest []) (λ h. Gathered h room.new) }
 {
     if front.len() <= stop {
-        return HeaderAnswer {
-            number: 0,
-            carried: 0,
-            header: CpimHeader {
-                valuelen: 0,
-                params: 0,
-                size: 16,
-            },
-        };
+        return Ok(none_read());
     }
-    let next = stop + 1;
-    read_param_parts(manner, &front[next..], room)
+    read_param_parts(manner, &front[stop + 1..], room)
 }

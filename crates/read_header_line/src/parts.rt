@@ -1,14 +1,16 @@
 // What the two readings of a header line differ in: where its parts stand left and right of the colon, 28, and how a parameter is taken. By
-// the second reading the first space right of the colon parts parameters and value.
+// the second reading the first space right of the colon parts parameters and value. Functions, and no record of all parts at once: the value
+// stands behind a space that may be missing, which 28 has to tell before the value is taken.
 
 ghost use Rattle.std.specs.Prelude.{◌≡◌, ◌<◌, length};
 ghost use Rattle.format.specs.Bytes.{semicolon, space, up_to};
 ghost use Rattle.format.specs.ReadingRfc.{misplaced};
+ghost use Rattle.format.specs.Told.{checked};
 ghost use Rattle.format.specs.declared.Manner.TheVariants.{Source, Rfc};
 ghost use Rattle.read_header_line.specs.HeaderLine.{name_by, params_by, value_by, misplaced_by, space_by, taken_by, lacking_by};
 
 use code_points::trimming::trim;
-use format::Manner;
+use format::{Manner, Refusal};
 use octets::finding::find_byte;
 
 // The place of the first space right of the colon; the first reading asks for none.
@@ -50,26 +52,17 @@ pub fn value_of<'a>(manner: Manner, right: &'a [u8], at: usize) -> &'a [u8]
 {
     match manner {
         Manner::Source => trim(right),
-        Manner::Rfc => {
-            let next = at + 1;
-            &right[next..]
-        }
+        Manner::Rfc => &right[at + 1..],
     }
 }
 
 // Whether the byte after the colon is neither space nor `;`, or no space follows the colon; at is the place of the first space.
+#[tactic(auto, using(crate::proofs::LineParts::no_space, crate::proofs::LineParts::first_decides))]
 fn misplaced(right: &[u8], at: usize) -> bool
     requires { at ≡ length (up_to space right.now) }
     ensures { result ≡ misplaced right.now }
 {
-    if right.len() <= at {
-        return true;
-    }
-    match right[0] {
-        32 => false,
-        59 => false,
-        _ => true,
-    }
+    right.len() <= at || (right[0] != b' ' && right[0] != b';')
 }
 
 // Whether 28 is due.
@@ -93,12 +86,13 @@ pub fn taken<'a>(manner: Manner, s: &'a [u8]) -> &'a [u8]
     }
 }
 
-// What a part without `=` is answered with: 0 where it is skipped, or 27.
-pub fn lacking(manner: Manner) -> u64
-    ensures { result ≡ lacking_by manner }
+// A part without `=`: it is skipped, or 27.
+#[tactic(auto, unfolding(format::specs::Told::checked, format::specs::Told::meant))]
+pub fn lacking(manner: Manner) -> Result<(), Refusal>
+    ensures { checked result ≡ lacking_by manner }
 {
     match manner {
-        Manner::Source => 0,
-        Manner::Rfc => 27,
+        Manner::Source => Ok(()),
+        Manner::Rfc => Err(Refusal::ParamLacksEquals),
     }
 }

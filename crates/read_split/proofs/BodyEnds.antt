@@ -1,7 +1,8 @@
 -- The part that the second call gives, as the end of the text or the start of the buffer, by what the text's body is. Assumes nothing.
-use Rattle.std.specs.Prelude.{if◌then◌else◌}
+use Rattle.std.specs.Prelude.{Option, if◌then◌else◌}
+use Rattle.std.specs.Option.{unwrap_or}
 use Prim.Native.Nat.{ℕ, ◌+◌, ◌-◌, ◌≤◌, ◌<◌}
-use mathlib.Core.Path.{◌≡◌, refl, ap, subst, ◌∙◌}
+use mathlib.Core.Path.{◌≡◌, refl, sym, ap, subst, ◌∙◌}
 use mathlib.Core.Bool.{Bool, true, false}
 use native.Mathlib.Omega.{arith}
 use lib.ListN.{length, take, drop, length-take, length-drop}
@@ -52,6 +53,11 @@ module _ (t buffer : Bytes) (n : ℕ) where
             there = rw (e, h, le-leb n (length buffer) fits) refl;
             within = omega arith;
           }
+
+-- the place, or nowhere
+pub place_or : (t buffer : Bytes) (n : ℕ) (q : Option BodyPlace) (d r : BodyPlace) → PlaceIs t buffer n (unwrap_or q nowhere) → d ≡ nowhere → r ≡ unwrap_or q d
+    → PlaceIs t buffer n r
+place_or t buffer n q d r h k e = subst (PlaceIs t buffer n) (sym (e ∙ ap (unwrap_or q) k)) h
 
 -- What stands at a place, and that a machine word has its end.
 module _ (t buffer : Bytes) (n : ℕ) (r : BodyPlace) (h : PlaceIs t buffer n r) where

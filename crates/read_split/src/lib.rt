@@ -4,12 +4,16 @@
 #![tactic(auto)]
 
 ghost use Rattle.std.specs.Prelude.{◌≡◌, ◌≤◌, length, drop};
+ghost use Rattle.std.specs.Option.{unwrap_or};
+ghost use Rattle.std.specs.Result.{result_unwrap_or};
 ghost use Rattle.format.specs.Limits.{max_text};
 ghost use Rattle.format.specs.Refusals.{numbers};
 ghost use Rattle.format.specs.LookingUp.{find_body, body_length_of, buffer_after, body_part};
+ghost use Rattle.format.specs.Told.{told};
 ghost use Rattle.read_split.specs.BodyPlaces.{nowhere, PlaceIs};
 ghost use Rattle.read_split.specs.TextJudged.{Judged, body_behind};
 
+use format::Refusal;
 use sections::bodies::{join_body, joined_len};
 use sections::{Places, crlf_sections, first_three};
 use store_check::MAX_BODY_SIZE;
@@ -17,35 +21,15 @@ use utf8::is_utf8;
 
 pub const MAX_PARSE_SIZE: usize = 20971520;
 
-// What reading makes of a text before it reads a line: a refusal's two numbers, or the places of its first three sections, as
-// in Places, and whether its separator is CRLFCRLF.
+// A text that neither 1 nor 24 nor 2 applies to: whether its separator is CRLFCRLF, and the places of its first three sections.
 #[derive(Clone, Copy)]
-pub enum Judgement {
-    Refused {
-        number: u64,
-        carried: u64,
-    },
-    Parted {
-        crlf: bool,
-        end1: usize,
-        start2: usize,
-        end2: usize,
-        start3: usize,
-        end3: usize,
-        rest: usize,
-    },
+pub struct Parted {
+    pub crlf: bool,
+    pub places: Places,
 }
 
-// What a call answers that writes bytes: the two numbers, and how many the bytes are, 0 where it is refused.
-#[repr(C)]
-#[derive(Clone, Copy)]
-pub struct LengthAnswer {
-    pub number: u64,
-    pub carried: u64,
-    pub length: usize,
-}
-
-// Where the second call's part stands: whether in the text, else in the buffer; where it begins, and its length.
+// Where the second call's part stands: whether in the text, else in the buffer; where it begins, and its length. As it is C's record too,
+// it is no enum.
 #[repr(C)]
 #[derive(Clone, Copy)]
 pub struct BodyPlace {
@@ -55,44 +39,19 @@ pub struct BodyPlace {
 }
 
 // 1, then 24, then 2.
-pub fn judge(text: &[u8]) -> Judgement
+pub fn judge(text: &[u8]) -> Result<Parted, Refusal>
     ensures { Judged text.now result }
 {
     if MAX_PARSE_SIZE < text.len() {
-        return Judgement::Refused {
-            number: 1,
-            carried: text.len() as u64,
-        };
+        return Err(Refusal::TextTooLong(text.len()));
     }
     if !is_utf8(text) {
-        return Judgement::Refused {
-            number: 24,
-            carried: 0,
-        };
+        return Err(Refusal::NotUtf8);
     }
     let crlf = crlf_sections(text);
-    let places = first_three(text, crlf);
-    match places {
-        Places::Few => Judgement::Refused {
-            number: 2,
-            carried: 0,
-        },
-        Places::Four {
-            end1,
-            start2,
-            end2,
-            start3,
-            end3,
-            rest,
-        } => Judgement::Parted {
-            crlf: crlf,
-            end1: end1,
-            start2: start2,
-            end2: end2,
-            start3: start3,
-            end3: end3,
-            rest: rest,
-        },
+    match first_three(text, crlf) {
+        Some(places) => Ok(Parted { crlf, places }),
+        None => Err(Refusal::TooFewSections),
     }
 }
 
@@ -108,61 +67,29 @@ pub fn body_len(text: &[u8], crlf: bool, rest: usize) -> usize
 }
 
 // The body's length: 1, 24, 2, 23, then 26 under LFLF, where the body is written to the buffer's start.
-pub fn read_body(text: &[u8], buffer: &mut [u8]) -> LengthAnswer
-    ensures answered { record { number = result.number; carried = result.carried } ≡ numbers (find_body text.now (length buffer.old)) }
-    ensures length { result.length ≡ body_length_of (find_body text.now (length buffer.old)) }
+pub fn read_body(text: &[u8], buffer: &mut [u8]) -> Result<usize, Refusal>
+    ensures answered { told result ≡ numbers (find_body text.now (length buffer.old)) }
+    ensures length { result_unwrap_or result 0 ≡ body_length_of (find_body text.now (length buffer.old)) }
     ensures written { buffer.new ≡ buffer_after text.now buffer.old }
 {
-    let judgement = judge(text);
-    match judgement {
-        Judgement::Refused { number, carried } => LengthAnswer {
-            number: number,
-            carried: carried,
-            length: 0,
-        },
-        Judgement::Parted {
-            crlf,
-            end1: _,
-            start2: _,
-            end2: _,
-            start3: _,
-            end3: _,
-            rest,
-        } => {
-            let n = body_len(text, crlf, rest);
-            if MAX_BODY_SIZE < n {
-                return LengthAnswer {
-                    number: 23,
-                    carried: n as u64,
-                    length: 0,
-                };
-            }
-            if crlf {
-                return LengthAnswer {
-                    number: 0,
-                    carried: 0,
-                    length: n,
-                };
-            }
-            if buffer.len() < n {
-                return LengthAnswer {
-                    number: 26,
-                    carried: n as u64,
-                    length: 0,
-                };
-            }
-            join_body(buffer, &text[rest..]);
-            LengthAnswer {
-                number: 0,
-                carried: 0,
-                length: n,
-            }
-        }
+    let parted = judge(text)?;
+    let rest = parted.places.rest;
+    let n = body_len(text, parted.crlf, rest);
+    if MAX_BODY_SIZE < n {
+        return Err(Refusal::BodyTooLong(n));
     }
+    if parted.crlf {
+        return Ok(n);
+    }
+    if buffer.len() < n {
+        return Err(Refusal::TooShort(n));
+    }
+    join_body(buffer, &text[rest..]);
+    Ok(n)
 }
 
-// The place of an empty part where there is no body.
-fn nowhere() -> BodyPlace
+// The place of the empty part that is given where there is no body.
+pub fn nowhere() -> BodyPlace
     ensures { result ≡ nowhere }
 {
     BodyPlace {
@@ -172,49 +99,40 @@ fn nowhere() -> BodyPlace
     }
 }
 
-// Where the part stands that the second call gives: judged by 1, 24, 2 and 23, then under LFLF by the length.
-pub fn body_place(text: &[u8], buffer: &[u8], len: usize) -> BodyPlace
-    ensures { PlaceIs text.now buffer.now len result }
+// Where the part stands that the second call gives: judged by 1, 24, 2 and 23, then under LFLF by the length. There is no body where
+// one of these applies.
+pub fn body_place(text: &[u8], buffer: &[u8], len: usize) -> Option<BodyPlace>
+    ensures { PlaceIs text.now buffer.now len (unwrap_or result nowhere) }
 {
-    let judgement = judge(text);
-    let Judgement::Parted {
-        crlf,
-        end1: _,
-        start2: _,
-        end2: _,
-        start3: _,
-        end3: _,
-        rest,
-    } = judgement
-    else {
-        return nowhere();
+    let Ok(parted) = judge(text) else {
+        return None;
     };
-    if MAX_BODY_SIZE < body_len(text, crlf, rest) {
-        return nowhere();
+    let rest = parted.places.rest;
+    if MAX_BODY_SIZE < body_len(text, parted.crlf, rest) {
+        return None;
     }
-    if crlf {
-        let n = text.len() - rest;
-        return BodyPlace {
+    if parted.crlf {
+        return Some(BodyPlace {
             in_text: true,
             start: rest,
-            length: n,
-        };
+            length: text.len() - rest,
+        });
     }
     if buffer.len() < len {
-        return nowhere();
+        return None;
     }
-    BodyPlace {
+    Some(BodyPlace {
         in_text: false,
         start: 0,
         length: len,
-    }
+    })
 }
 
 // Part of the text under CRLFCRLF, part of the buffer under LFLF: its first bytes, so many.
 pub fn body_part<'a>(text: &'a [u8], buffer: &'a [u8], len: usize) -> &'a [u8]
     ensures { result.now ≡ body_part text.now buffer.now len }
 {
-    let place = body_place(text, buffer, len);
+    let place = body_place(text, buffer, len).unwrap_or(nowhere());
     let start = place.start;
     let end = start + place.length;
     if place.in_text {

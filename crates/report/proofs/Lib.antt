@@ -1,6 +1,5 @@
 mod ShownCases
 mod ShownLines
-mod LinesPassed
 mod EntryNames
 mod Read
 mod WordRows

@@ -1,7 +1,11 @@
 -- What is shown of a message by the record and the store that hold it, and of an input by how it is read. Assumes nothing.
+use Rattle.std.specs.Prelude as std
+use Rattle.std.proofs.Common.{option_copied}
+use Rattle.std.specs.Option.{unwrap_or}
+use denote.Bor.{Bor}
 use Prim.Native.Nat.{ℕ, ◌≤◌, ◌<◌}
 use mathlib.Core.Path.{◌≡◌, refl, sym, ap, ◌∙◌}
-use mathlib.Core.Bool.{Bool, true}
+use mathlib.Core.Bool.{true}
 use mathlib.Core.List.{◌++◌, append-nil}
 use mathlib.Core.Option.{Option, some}
 use native.Mathlib.Omega.{arith}
@@ -14,30 +18,38 @@ use Rattle.format.specs.Layout.{Lent, Holds, Held, message, empty_message}
 use Rattle.format.specs.Lending.{head_lent, both_lent, Parsed}
 use Rattle.format.specs.Reading.{read}
 use Rattle.format.specs.LookingUp.{get_type, count_headers, count_params, count_contents}
+use Rattle.format.specs.Told.{given}
 use Rattle.format.specs.Showing.{show_numbers, show_message, show, showcpim}
 use Rattle.format.specs.declared.CpimMessage.{CpimMessage}
 use Rattle.format.specs.declared.Numbers.{Numbers}
 use Rattle.store_check.specs.Holding.{message_holds}
 use Rattle.store_check.proofs.HeldParts.{held_parts}
 use Rattle.store_check.proofs.HeldCases.{in_head}
-use Rattle.lookup_part.specs.Found.{Found}
 use Rattle.report.specs.ShownLines.{message_lines}
 use Rattle.report.proofs.Read.{stores, answers, is_refused, is_read}
 
 -- Of a message held.
-module _ (m : CpimMessage) (head kind : Bytes) (found : Bool) (typed : (o : Option Message) → Held (head_lent m head) o → Found (get_type o) found kind) where
-  pub kind_short : message_holds m head ≡ true → length kind ≤ 256
+module _ (m : CpimMessage) (head : Bytes) (kind : std.Option (Bor Bytes)) (typed : (o : Option Message) → Held (head_lent m head) o → given (option_copied kind) ≡ get_type o) where
+  -- its type, in the place of which none is not handed out
+  typed_as : (none_given : Bor Bytes) (k : Message) → Holds (head_lent m head) k → (unwrap_or kind none_given).now ≡ k.type
   unfolding get_type
-  kind_short h =
-      let w = in_head m head h in
-      omega (arith, ap length (typed _ (message w)).bytes, (held_parts (head_lent m head) _ w).type_short)
+  typed_as none_given k held = by kind (typed (some k) (message held))
+    where
+      by : (r : std.Option (Bor Bytes)) → given (option_copied r) ≡ some k.type → (unwrap_or r none_given).now ≡ k.type
+      by std.None e = cc
+      by (std.Some b) e = cc
 
-  pub held_lines : (params : ℕ) → ((o : Option Message) → Held (head_lent m head) o → params ≡ count_params o)
-      → (k : Message) → Holds (head_lent m head) k → message_lines m.headers params m.contents kind m.bodylen ≡ show_message (accepted k)
+  pub kind_short : (none_given : Bor Bytes) → message_holds m head ≡ true → length (unwrap_or kind none_given).now ≤ 256
+  kind_short none_given h =
+      let w = in_head m head h in
+      omega (arith, ap length (typed_as none_given _ w), (held_parts (head_lent m head) _ w).type_short)
+
+  pub held_lines : (none_given : Bor Bytes) (params : ℕ) → ((o : Option Message) → Held (head_lent m head) o → params ≡ count_params o)
+      → (k : Message) → Holds (head_lent m head) k → message_lines m.headers params m.contents (unwrap_or kind none_given).now m.bodylen ≡ show_message (accepted k)
   unfolding message_lines show_message get_type count_headers count_contents
-  held_lines params counted k held =
+  held_lines none_given params counted k held =
       let p = held_parts (head_lent m head) k held in
-      rw (p.headers, counted (some k) (message held), p.contents, (typed (some k) (message held)).bytes, p.bodylen) refl
+      rw (p.headers, counted (some k) (message held), p.contents, typed_as none_given k held, p.bodylen) refl
 
 -- Of an input that is too long.
 pub too_long_lem : (input : Bytes) → 65536 < length input → show_numbers (record { number = 26; carried = 65537 }) ≡ showcpim input

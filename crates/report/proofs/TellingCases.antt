@@ -5,7 +5,6 @@ use mathlib.Core.Bool.{true, false}
 use mathlib.Core.List.{[], ◌∷◌, ◌++◌, append_assoc}
 use mathlib.Core.Option.{Option, some}
 use native.Mathlib.Omega.{arith}
-use lib.Dec.{eqb}
 use lib.ListN.{length}
 use borrow.Author.Tests.{eq-eqb, ne_eqb, lt-leb, le-leb}
 use Rattle.format.specs.Bytes.{Bytes, ascii, lf_text, lf}
@@ -22,23 +21,6 @@ use Rattle.output.proofs.Puts.{Puts, puts, puts_nothing, puts_then, puts_as}
 use Rattle.report.proofs.Read.{is_refused, is_read, in_both}
 use Rattle.report.specs.Words.{reason, refused_words, entry_words}
 use Rattle.report.specs.Telling.{of_header, of_content, subject, loss_words, tell, wholecpim}
-
--- Clauses 2, 5; 4, 6; and the others.
-pub two_is : (c : ℕ) → c ≡ 2 → true ≡ of_header c
-unfolding of_header
-two_is c e = rw (eq-eqb c 2 e) refl
-
-pub five_is : (c : ℕ) → (c ≡ 2 → ⊥) → eqb c 5 ≡ of_header c
-unfolding of_header
-five_is c n = rw (ne_eqb c 2 n) refl
-
-pub four_is : (c : ℕ) → c ≡ 4 → true ≡ of_content c
-unfolding of_content
-four_is c e = rw (eq-eqb c 4 e) refl
-
-pub six_is : (c : ℕ) → (c ≡ 4 → ⊥) → eqb c 6 ≡ of_content c
-unfolding of_content
-six_is c n = rw (ne_eqb c 4 n) refl
 
 module _ (k : Message) (c n : ℕ) where
   pub of_header_lem : of_header c ≡ true → entry_words (ascii "header ") n (mapped name_of (nth n k.headers)) ≡ subject k c n

@@ -1,17 +1,14 @@
 -- The words in the parts that are put one behind another. Assumes nothing.
 use Prim.Native.Nat.{ℕ, ◌+◌, ◌≤◌}
-use mathlib.Core.Path.{◌≡◌, sym}
-use mathlib.Core.Bool.{Bool, true, false}
+use mathlib.Core.Path.{◌≡◌}
 use mathlib.Core.List.{append_assoc}
-use mathlib.Core.Option.{Option, none, some}
+use mathlib.Core.Option.{none, some}
 use native.Mathlib.Omega.{arith}
 use lib.ListN.{length}
 use borrow.Author.Tests.{eq-eqb, ne_eqb}
 use Rattle.format.specs.Bytes.{Bytes, ascii}
 use Rattle.format.specs.Escaping.{escape}
 use Rattle.format.specs.Showing.{decimal}
-use Rattle.format.proofs.Lists.{clash}
-use Rattle.lookup_part.specs.Found.{Found}
 use Rattle.output.specs.Put.{Put}
 use Rattle.output.proofs.Puts.{Puts, puts, puts_nothing, puts_then, puts_as}
 use Rattle.report.specs.Words.{condition, carried_words, refused_words, entry_words}
@@ -43,23 +40,18 @@ refusal_put number carried a b c e f =
     (puts_then (omega arith) (puts_then (omega arith) (puts_then (omega arith) (puts_then (omega arith) (puts (ascii "refused: ") 9 (omega arith) a) b) (puts (ascii ", ") 2 (omega arith) c)) e) f)
 
 -- An entry that is not found, and one that is.
-pub no_entry : (kind : Bytes) (n at : ℕ) (d name : Bytes) (found : Bool) → found ≡ false → (o : Option Bytes) → Found o found name
-    → Put at (length kind + 814) (entry_words kind n o) d d at
+pub no_entry : (kind : Bytes) (n at : ℕ) (d : Bytes) → Put at (length kind + 814) (entry_words kind n none) d d at
 unfolding entry_words
-no_entry kind n at d name found e none f = puts_nothing at (length kind + 814) d
-no_entry kind n at d name found e (some b) f = clash f.told e
+no_entry kind n at d = puts_nothing at (length kind + 814) d
 
-pub entry_put : (kind : Bytes) (n : ℕ) (name : Bytes) (found : Bool) {at p q r s t : ℕ} {d o x y z w : Bytes} → at ≤ length d → length (escape name) ≤ 768
+pub entry_put : (kind : Bytes) (n : ℕ) (name : Bytes) {at p q r s t : ℕ} {d o x y z w : Bytes} → at ≤ length d → length (escape name) ≤ 768
     → Puts at kind d o p
     → Put p 20 (decimal (n + 1)) o x q
     → Puts q (ascii " in the order of names, ") x y r
     → Puts r (escape name) y z s
     → Puts s (ascii ", ") z w t
-    → found ≡ true → (b : Option Bytes) → Found b found name
-    → Put at (length kind + 814) (entry_words kind n b) d w t
+    → Put at (length kind + 814) (entry_words kind n (some name)) d w t
 unfolding entry_words
-entry_put kind n name found h l a b c e f there none g = clash there g.told
-entry_put kind n name found h l a b c e f there (some v) g =
-    rw (sym g.bytes)
-    (puts_as _ (length kind + 814) (simp append_assoc) (omega arith)
-    (puts_then h (puts_then h (puts_then h (puts_then h (puts kind (length kind) (omega arith) a) b) (puts (ascii " in the order of names, ") 24 (omega arith) c)) (puts (escape name) 768 l e)) (puts (ascii ", ") 2 (omega arith) f)))
+entry_put kind n name h l a b c e f =
+    puts_as _ (length kind + 814) (simp append_assoc) (omega arith)
+    (puts_then h (puts_then h (puts_then h (puts_then h (puts kind (length kind) (omega arith) a) b) (puts (ascii " in the order of names, ") 24 (omega arith) c)) (puts (escape name) 768 l e)) (puts (ascii ", ") 2 (omega arith) f))

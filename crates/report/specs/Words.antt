@@ -1,8 +1,8 @@
 -- Words for what document 01 says by number: the conditions of its table of refusals, and why a message does not come back whole, by the
 -- clause of demand 3's condition that fails (crates/roundtrip/specs/Loss.antt). Assumes nothing.
-use Rattle.std.specs.Prelude.{ℕ, zero, suc, ◌+◌, List, [], ◌∷◌, ◌++◌, eqb, if◌then◌else◌}
+use Rattle.std.specs.Prelude.{ℕ, zero, suc, ◌+◌, ◌≤◌, ◌<◌, List, [], ◌∷◌, ◌++◌, eqb, length, if◌then◌else◌}
 use Rattle.std.proofs.Math.Option.{Option, none, some}
-use Rattle.format.specs.Bytes.{Bytes, ascii, lf, lf_text, texts, up_to, past}
+use Rattle.format.specs.Bytes.{Bytes, ascii}
 use Rattle.format.specs.Escaping.{escape}
 use Rattle.format.specs.Showing.{decimal}
 use Rattle.format.specs.declared.Numbers.{Numbers}
@@ -82,10 +82,7 @@ unfoldable pub entry_words : Bytes → ℕ → Option Bytes → Bytes
 entry_words kind n none = []
 entry_words kind n (some name) = kind ++ (decimal (n + 1) ++ (ascii " in the order of names, " ++ (escape name ++ ascii ", ")))
 
--- the rows as one text, each ended by LF; and the line of a number in a text
-unfoldable pub lined : List Bytes → Bytes
-lined rs = texts (λ r. r ++ lf_text) rs
-
-unfoldable pub line_at : ℕ → Bytes → Bytes
-line_at zero s = up_to lf s
-line_at (suc n) s = line_at n (past lf s)
+-- what is asked of an entry whose words are put: its number is below 1,000, and its name has at most 128 bytes
+abbrev pub Near : ℕ → Option Bytes → Type 0
+Near n none = Unit {0}
+Near n (some name) = (n < 1000) × (length name ≤ 128)

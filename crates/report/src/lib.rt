@@ -18,7 +18,7 @@ ghost use Rattle.output.specs.Put.{Put};
 ghost use Rattle.report.specs.ShownLines.{message_lines};
 
 use escape::escape_header_value;
-use format::CpimMessage;
+use format::{CpimMessage, Numbers, Refusal};
 use lookup::accessors::content_type;
 use lookup::counts::count_params;
 use output::decimals::put_decimal;
@@ -48,12 +48,12 @@ fn put_text(out: &mut [u8], at: usize, label: &[u8], s: &[u8]) -> usize
 }
 
 // The first two lines.
-fn put_numbers(out: &mut [u8], number: u64, carried: u64) -> usize
+fn put_numbers(out: &mut [u8], numbers: Numbers) -> usize
     requires { 57 ≤ length out.old }
-    ensures { Put 0 57 (show_numbers (record { number = number; carried = carried })) out.old out.new result }
+    ensures { Put 0 57 (show_numbers numbers) out.old out.new result }
 {
-    let to = put_number(out, 0, b"result", number);
-    put_number(out, to, b"carried", carried)
+    let to = put_number(out, 0, b"result", numbers.number);
+    put_number(out, to, b"carried", numbers.carried)
 }
 
 // The lines of a message, by its numbers and its type.
@@ -82,8 +82,7 @@ fn put_held_lines(out: &mut [u8], at: usize, m: CpimMessage, head: &[u8]) -> usi
     ensures { (k : Message) → Holds (head_lent m head.now) k → Put at 1655 (show_message (accepted k)) out.old out.new result }
 {
     let params = count_params(m, head);
-    let mut found = false;
-    let kind = content_type(m, head, &mut found);
+    let kind = content_type(m, head).unwrap_or(b"");
     put_message(out, at, m.headers, params, m.contents, kind, m.bodylen)
 }
 
@@ -99,14 +98,19 @@ pub fn show(input: &[u8], out: &mut [u8; 1712]) -> usize
     ensures { Put 0 1712 (showcpim input.now) out.old out.new result }
 {
     if 65536 < input.len() {
-        return put_numbers(out, 26, 65537);
+        return put_numbers(out, Numbers::from(Refusal::TooShort(65537)));
     }
     let mut head = store();
     let mut body = store();
-    let a = parse_cpim(input, &mut head, &mut body);
-    let to = put_numbers(out, a.number, a.carried);
-    if a.number != 0 {
-        return to;
+    match parse_cpim(input, &mut head, &mut body) {
+        Ok(m) => {
+            let accepted = Numbers {
+                number: 0,
+                carried: 0,
+            };
+            let to = put_numbers(out, accepted);
+            put_held_lines(out, to, m, &head)
+        }
+        Err(refusal) => put_numbers(out, Numbers::from(refusal)),
     }
-    put_held_lines(out, to, a.message, &head)
 }

@@ -26,10 +26,12 @@ use Rattle.format.specs.declared.Manner.TheVariants.{Source, Rfc}
 use Rattle.format.proofs.Lists.{bcase, clash}
 use Rattle.format.proofs.Texts.SourceRoundTrip.{reads_back, back_only}
 use Rattle.format.proofs.Texts.RfcRoundTrip.{reads_back_rfc, back_only_rfc}
-use Rattle.roundtrip.specs.Clauses.{passing}
-use Rattle.roundtrip.proofs.CountPassing.{passing_all, passing_some}
+use Rattle.std.specs.Prelude.{Result, Ok, Err, Some, is_ok}
+use Rattle.roundtrip.specs.Clauses.{FirstFails, passing}
 use Rattle.roundtrip.specs.declared.Loss.{Loss}
-use Rattle.roundtrip.specs.Loss.{lost, none_lost, clause, each, params_asked, name_asked, early, late, loss_by, loss_held_by, loss_held, held_meets, condition, whole_held, whole_held_rfc, ReadsBackBy, ReadsBack, ReadsBackRfc}
+use Rattle.roundtrip.specs.declared.Lost.{Lost}
+use Rattle.roundtrip.specs.declared.Lost.TheVariants as code
+use Rattle.roundtrip.specs.Loss.{lost, none_lost, told, clause, each, params_asked, name_asked, early, late, loss_by, loss_held_by, loss_held, held_meets, condition, whole_held, whole_held_rfc, ReadsBackBy, ReadsBack, ReadsBackRfc}
 
 -- A clause that holds, and one that fails.
 pub clause_holds : {b : Bool} (l rest : Loss) → b ≡ true → clause b l rest ≡ rest
@@ -40,15 +42,15 @@ pub clause_fails : {b : Bool} (l rest : Loss) → b ≡ false → clause b l res
 unfolding clause
 clause_fails l rest h = rw h refl
 
--- The same of each of some entries, by how many were counted before the first that fails.
-module _ {A : Type 0} (c : ℕ) (p : A → Bool) (xs : List A) (n many : ℕ) (ne : n ≡ passing p xs) (me : many ≡ length xs) (rest : Loss) where
-  pub each_holds : many ≤ n → each c p xs rest ≡ rest
+-- The same of each of some entries, by the first that fails.
+module _ {A : Type 0} (c : ℕ) (p : A → Bool) (xs : List A) (rest : Loss) where
+  pub each_holds : all p xs ≡ true → each c p xs rest ≡ rest
   unfolding each
-  each_holds h = clause_holds (lost c (passing p xs)) rest (passing_all p xs (omega (arith, ne, me)))
+  each_holds h = clause_holds (lost c (passing p xs)) rest h
 
-  pub each_fails : n < many → each c p xs rest ≡ lost c n
+  pub each_fails : (n : ℕ) → FirstFails p xs (Some n) → each c p xs rest ≡ lost c n
   unfolding each
-  each_fails h = clause_fails (lost c (passing p xs)) rest (passing_some p xs (omega (arith, ne, me))) ∙ ap (lost c) (sym ne)
+  each_fails n h = clause_fails (lost c (passing p xs)) rest h.0 ∙ ap (lost c) (sym h.1)
 
 -- there is a header, or none
 pub headed : (hs : List Header) (many : ℕ) → many ≡ length hs → (many ≡ 0 → ⊥) → has_header hs ≡ true
@@ -171,6 +173,31 @@ answers r (some k) l e =
     (λ b. ne_eqb l.clause 0 (λ z. clash ((loss_none r k).0 (sym same ∙ z)) b) ∙ sym b)
     (bcase (condition r k))
 
+-- no clause fails exactly where the code answers Ok
+ok_is : {A : Type 0} (o : Result A Lost) → is_ok o ≡ eqb (told o).clause 0
+unfolding told
+ok_is (Ok a) = refl
+ok_is (Err code.NoHeader) = refl
+ok_is (Err (code.Params n)) = refl
+ok_is (Err code.BodyNotUtf8) = refl
+ok_is (Err (code.ContentType n)) = refl
+ok_is (Err (code.HeaderName n)) = refl
+ok_is (Err (code.ContentEnds n)) = refl
+ok_is (Err code.TypeEnds) = refl
+ok_is (Err code.NothingHeld) = refl
+
+-- what fails has a number
+pub err_lost : (e : Lost) → (told {A = Unit {0}} (Err e)).clause ≡ 0 → ⊥
+unfolding told
+err_lost code.NoHeader h = omega arith
+err_lost (code.Params n) h = omega arith
+err_lost code.BodyNotUtf8 h = omega arith
+err_lost (code.ContentType n) h = omega arith
+err_lost (code.HeaderName n) h = omega arith
+err_lost (code.ContentEnds n) h = omega arith
+err_lost code.TypeEnds h = omega arith
+err_lost code.NothingHeld h = omega arith
+
 -- What the answer to a loss l says, by a reading that gives a message back exactly under its condition.
 module _ (r : Manner) (reading : Bytes → Stores → Out Message)
     (back : (k : Message) (stores : Stores) → valid k ≡ true → condition r k ≡ true → RoomFor k stores → reading (write k) stores ≡ accepted k)
@@ -185,11 +212,11 @@ module _ (r : Manner) (reading : Bytes → Stores → Out Message)
       let told = says_condition (some k) (message g) in
       ((λ h. back k stores g.within (sym told ∙ h) room), (λ b. told ∙ only k stores g.within b))
 
-module _ (lent : Lent) (l : Loss) where
-  pub source_says : ((o : Option Message) → Held lent o → l ≡ loss_held o)
-      → ((o : Option Message) → Held lent o → eqb l.clause 0 ≡ whole_held o) × ReadsBack lent (eqb l.clause 0)
-  source_says e = (says_condition Source read reads_back back_only lent l e, says_back Source read reads_back back_only lent l e)
+module _ {A : Type 0} (lent : Lent) (l : Result A Lost) (b : Bool) (s : b ≡ is_ok l) where
+  pub source_says : ((o : Option Message) → Held lent o → told l ≡ loss_held o)
+      → ((o : Option Message) → Held lent o → b ≡ whole_held o) × ReadsBack lent b
+  source_says e = rw (s, ok_is l) (says_condition Source read reads_back back_only lent (told l) e, says_back Source read reads_back back_only lent (told l) e)
 
-  pub rfc_says : ((o : Option Message) → Held lent o → l ≡ loss_held_by Rfc o)
-      → ((o : Option Message) → Held lent o → eqb l.clause 0 ≡ whole_held_rfc o) × ReadsBackRfc lent (eqb l.clause 0)
-  rfc_says e = (says_condition Rfc read_rfc reads_back_rfc back_only_rfc lent l e, says_back Rfc read_rfc reads_back_rfc back_only_rfc lent l e)
+  pub rfc_says : ((o : Option Message) → Held lent o → told l ≡ loss_held_by Rfc o)
+      → ((o : Option Message) → Held lent o → b ≡ whole_held_rfc o) × ReadsBackRfc lent b
+  rfc_says e = rw (s, ok_is l) (says_condition Rfc read_rfc reads_back_rfc back_only_rfc lent (told l) e, says_back Rfc read_rfc reads_back_rfc back_only_rfc lent (told l) e)

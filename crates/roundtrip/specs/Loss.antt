@@ -3,7 +3,7 @@
 -- so that they come back (document 02, T-03); 9 stays the number for nothing held, so that no other number moves. The second reading
 -- (T-01) asks clause 2 otherwise and clause 5 not at all, as `comes_back_rfc` does (crates/format/specs/SecondReading.antt).
 -- proofs/Lossless.antt has that none fails exactly where the message comes back, and which numbers are never given. Assumes nothing.
-use Rattle.std.specs.Prelude.{ℕ, ◌≡◌, Bool, true, false, List, ◌↔◌}
+use Rattle.std.specs.Prelude.{ℕ, ◌≡◌, Bool, true, false, List, Result, Ok, Err, ◌↔◌}
 use Rattle.std.proofs.Math.Option.{Option, none, some}
 use Rattle.format.specs.Bytes.{Bytes, all}
 use Rattle.format.specs.Characters.{is_utf8, is_white, clear_ends}
@@ -20,6 +20,8 @@ use Rattle.format.specs.declared.Manner.{Manner}
 use Rattle.format.specs.declared.Manner.TheVariants.{Source, Rfc}
 use Rattle.roundtrip.specs.Clauses.{passing}
 use Rattle.roundtrip.specs.declared.Loss.{Loss}
+use Rattle.roundtrip.specs.declared.Lost.{Lost}
+use Rattle.roundtrip.specs.declared.Lost.TheVariants as code
 
 abbrev pub lost : ℕ → ℕ → Loss
 lost c n = record { clause = c; entry = n }
@@ -27,6 +29,18 @@ lost c n = record { clause = c; entry = n }
 -- no clause fails
 abbrev pub none_lost : Loss
 none_lost = lost 0 0
+
+-- what the code answers, in these numbers
+unfoldable pub told : {A : Type 0} → Result A Lost → Loss
+told (Ok a) = none_lost
+told (Err code.NoHeader) = lost 1 0
+told (Err (code.Params n)) = lost 2 n
+told (Err code.BodyNotUtf8) = lost 3 0
+told (Err (code.ContentType n)) = lost 4 n
+told (Err (code.HeaderName n)) = lost 5 n
+told (Err (code.ContentEnds n)) = lost 6 n
+told (Err code.TypeEnds) = lost 7 0
+told (Err code.NothingHeld) = lost 9 0
 
 -- a clause holds, and the rest is asked; or it fails, and l is said
 unfoldable pub clause : Bool → Loss → Loss → Loss

@@ -1,46 +1,65 @@
-// The clauses of both readings' conditions that speak of each header, of its parameters or of each content header, asked
-// of entries in a store (specs/Clauses.antt).
+// Entries in a store asked by a test, one by one: the first that fails it (specs/Clauses.antt). And what the clauses of both readings'
+// conditions ask of an entry: of a header, a content header or a parameter.
 
-ghost use Rattle.std.specs.Prelude.{◌≡◌, true, drop};
-ghost use Rattle.format.specs.Bytes.{ascii, space, all, has, same_letters};
+ghost use Rattle.std.specs.Prelude.{◌≡◌, true, drop, Bool};
+ghost use Rattle.format.specs.Bytes.{ascii, space, has, same_letters};
 ghost use Rattle.format.specs.Demand3.{clear_content};
 ghost use Rattle.format.specs.SecondReading.{spaceless_param};
-ghost use Rattle.store_entries.specs.Stored.{shaped, shaped_all, stored_in, entries_in};
-ghost use Rattle.roundtrip.specs.Clauses.{as_entry, meets, params_stand, stored_spaceless, passing};
+ghost use Rattle.store_entries.specs.Stored.{Stored, shaped, shaped_all, stored_in, entries_in};
+ghost use Rattle.lookup_nth.specs.Listed.{stored_of};
+ghost use Rattle.lookup_nth.specs.declared.Entry.{Entry};
+ghost use Rattle.roundtrip.specs.Clauses.{as_entry, Among, Asks, FirstFails, params_stand, stored_spaceless};
 
 use code_points::ends::clear_ends;
+use lookup_nth::{Entries, Entry};
 use octets::compare::same_letters;
 use octets::finding::find_byte;
 use store_entries::{entry_len, name_at, param_count, tail_at, value_at};
 
-// What a clause asks of an entry: of a header, a content header or, last, of a parameter.
-#[derive(Clone, Copy)]
-pub enum Clause {
-    NoParam,
-    NotType,
-    ClearName,
-    ClearContent,
-    SpacelessParam,
+// The entry at a place.
+fn entry_at<'a>(s: &'a [u8], at: usize) -> Entry<'a>
+    requires { shaped (drop at s.now) ≡ true }
+    ensures { stored_of result ≡ stored_in (drop at s.now) }
+{
+    Entry {
+        name: name_at(s, at),
+        value: value_at(s, at),
+        params: Entries {
+            bytes: tail_at(s, at),
+            count: param_count(s, at),
+        },
+    }
+}
+
+// The first entry that fails the test, by its number; None where all pass.
+pub fn first_failing<F: Fn(Entry) -> bool>(entries: Entries, passes: F) -> Option<usize>
+    requires shaped { shaped_all entries.count entries.bytes.now ≡ true }
+    requires callable { (e : Entry) → Among (entries_in entries.count entries.bytes.now) (stored_of e) → F.pre passes e }
+    ensures { (p : Stored → Bool) → Asks F.Fn passes p → FirstFails p (entries_in entries.entry.count entries.entry.bytes.now) result }
+{
+    let mut at = 0;
+    for i in 0..entries.count {
+        if !passes(entry_at(entries.bytes, at)) {
+            return Some(i);
+        }
+        at += entry_len(entries.bytes, at);
+    }
+    None
 }
 
 // Content-type in any ASCII case.
-fn is_type(name: &[u8]) -> bool
+pub fn is_type(name: &[u8]) -> bool
     ensures { result ≡ same_letters (ascii "Content-type") name.now }
 {
     same_letters(b"Content-type", name)
 }
 
 // Neither name nor value has white space at an end.
-fn content_clear(s: &[u8], at: usize) -> bool
-    requires { shaped (drop at s.now) ≡ true }
-    ensures { result ≡ clear_content (as_entry (stored_in (drop at s.now))) }
+#[tactic(auto, unfolding(format::specs::Demand3::clear_content))]
+pub fn is_clear(entry: Entry) -> bool
+    ensures { result ≡ clear_content (as_entry (stored_of entry.entry)) }
 {
-    let name = clear_ends(name_at(s, at));
-    let value = clear_ends(value_at(s, at));
-    if !name {
-        return false;
-    }
-    value
+    clear_ends(entry.name) && clear_ends(entry.value)
 }
 
 fn has_space(text: &[u8]) -> bool
@@ -50,71 +69,17 @@ fn has_space(text: &[u8]) -> bool
 }
 
 // Neither name nor value has a space.
-fn spaceless_param(s: &[u8], at: usize) -> bool
-    requires { shaped (drop at s.now) ≡ true }
-    ensures { result ≡ spaceless_param (as_entry (stored_in (drop at s.now))) }
+#[tactic(auto, unfolding(format::specs::SecondReading::spaceless_param))]
+fn is_spaceless(param: Entry) -> bool
+    ensures { result ≡ spaceless_param (as_entry (stored_of param.entry)) }
 {
-    let name = has_space(name_at(s, at));
-    let value = has_space(value_at(s, at));
-    if name {
-        return false;
-    }
-    !value
+    !has_space(param.name) && !has_space(param.value)
 }
 
-// Whether the entry at a place meets the clause.
-fn meets(clause: Clause, s: &[u8], at: usize) -> bool
-    requires { shaped (drop at s.now) ≡ true }
-    ensures { result ≡ meets clause (stored_in (drop at s.now)) }
+// Whether no parameter of the entry has a space.
+pub fn has_spaceless_params(entry: Entry) -> bool
+    requires { params_stand (stored_of entry) ≡ true }
+    ensures { result ≡ stored_spaceless (stored_of entry.entry) }
 {
-    match clause {
-        Clause::NoParam => param_count(s, at) == 0,
-        Clause::NotType => !is_type(name_at(s, at)),
-        Clause::ClearName => clear_ends(name_at(s, at)),
-        Clause::ClearContent => content_clear(s, at),
-        Clause::SpacelessParam => spaceless_param(s, at),
-    }
-}
-
-// How many entries stand before the first that does not meet the clause; all of them where there is none.
-pub fn count_passing(clause: Clause, s: &[u8], count: usize) -> usize
-    requires { shaped_all count s.now ≡ true }
-    ensures { result ≡ passing (meets clause) (entries_in count s.now) }
-{
-    let mut at = 0;
-    let mut i = 0;
-    while i < count {
-        if !meets(clause, s, at) {
-            return i;
-        }
-        at += entry_len(s, at);
-        i += 1;
-    }
-    i
-}
-
-// Whether no parameter of the entry at a place has a space.
-fn spaceless(s: &[u8], at: usize) -> bool
-    requires { (shaped (drop at s.now) ≡ true) × (params_stand (stored_in (drop at s.now)) ≡ true) }
-    ensures { result ≡ stored_spaceless (stored_in (drop at s.now)) }
-{
-    let count = param_count(s, at);
-    count <= count_passing(Clause::SpacelessParam, tail_at(s, at), count)
-}
-
-// How many entries stand before the first that has a space in a parameter; all of them where there is none.
-pub fn count_spaceless(s: &[u8], count: usize) -> usize
-    requires { (shaped_all count s.now ≡ true) × (all params_stand (entries_in count s.now) ≡ true) }
-    ensures { result ≡ passing stored_spaceless (entries_in count s.now) }
-{
-    let mut at = 0;
-    let mut many = 0;
-    while many < count {
-        if !spaceless(s, at) {
-            return many;
-        }
-        at += entry_len(s, at);
-        many += 1;
-    }
-    many
+    first_failing(entry.params, is_spaceless).is_none()
 }

@@ -13,17 +13,31 @@ ghost use Rattle.format.specs.Layout.{layout_entry, layout_header, Held};
 ghost use Rattle.format.specs.Lending.{both_lent};
 ghost use Rattle.store_entries.specs.Stored.{shaped_all, entries_in};
 ghost use Rattle.lookup_nth.specs.Listed.{Listed};
-ghost use Rattle.roundtrip.specs.Clauses.{params_stand, passing};
-ghost use Rattle.roundtrip.specs.Loss.{none_lost, params_asked, name_asked, early, late, loss_held_by, loss_held, whole_held, whole_held_rfc, ReadsBack, ReadsBackRfc};
+ghost use Rattle.roundtrip.specs.Clauses.{FirstFails, params_stand};
+ghost use Rattle.roundtrip.specs.Loss.{told, none_lost, params_asked, name_asked, early, late, loss_held_by, loss_held, whole_held, whole_held_rfc, ReadsBack, ReadsBackRfc};
 
-use crate::clauses::{Clause, count_passing, count_spaceless};
+use crate::clauses::{first_failing, has_spaceless_params, is_clear, is_type};
 use code_points::ends::clear_ends;
 use format::{CpimMessage, Manner};
+use lookup_nth::Entries;
 use store_check::message_holds;
 use utf8::is_utf8;
 
-// The clause that fails first, by its number in specs/Loss.antt, 1 to 7; 0 where none does and 9 where nothing is held, and 8 is never
-// given. And the number of the header or content header that it fails for, counting from 0, 0 where it speaks of none.
+// Why a message does not come back: the clause that fails first, and for which header or content header, counted from 0.
+#[derive(Clone, Copy)]
+pub enum Lost {
+    NoHeader,
+    Params(usize),
+    BodyNotUtf8,
+    ContentType(usize),
+    HeaderName(usize),
+    ContentEnds(usize),
+    TypeEnds,
+    NothingHeld,
+}
+
+// The same for C: the clause by its number in specs/Loss.antt, 1 to 7; 0 where none fails and 9 where nothing is held, and 8 is never
+// given. And the number of the header or content header, 0 where the clause speaks of none.
 #[repr(C)]
 #[derive(Clone, Copy)]
 pub struct Loss {
@@ -31,123 +45,116 @@ pub struct Loss {
     pub entry: usize,
 }
 
-fn lost(clause: usize, entry: usize) -> Loss
-    ensures { result ≡ record { clause = clause; entry = entry } }
-{
-    Loss {
-        clause: clause,
-        entry: entry,
+impl From<Result<(), Lost>> for Loss {
+    #[tactic(auto, unfolding(crate::specs::Loss::told))]
+    fn from(lost: Result<(), Lost>) -> Loss
+        ensures { result ≡ told lost }
+    {
+        let (clause, entry) = match lost {
+            Ok(()) => (0, 0),
+            Err(Lost::NoHeader) => (1, 0),
+            Err(Lost::Params(entry)) => (2, entry),
+            Err(Lost::BodyNotUtf8) => (3, 0),
+            Err(Lost::ContentType(entry)) => (4, entry),
+            Err(Lost::HeaderName(entry)) => (5, entry),
+            Err(Lost::ContentEnds(entry)) => (6, entry),
+            Err(Lost::TypeEnds) => (7, 0),
+            Err(Lost::NothingHeld) => (9, 0),
+        };
+        Loss { clause, entry }
     }
 }
 
-// How many headers stand before the first whose parameters fail clause 2, by the manner of reading; all of them where there
-// is none.
-fn params_passing(manner: Manner, hs: &[u8], headers: usize) -> usize
-    requires { (shaped_all headers hs.now ≡ true) × (all params_stand (entries_in headers hs.now) ≡ true) }
-    ensures { (xs : List Header) → Listed layout_header xs hs.now headers → result ≡ passing (params_asked manner) xs }
+// The first header whose parameters fail clause 2, by the manner of reading.
+fn params_failing(manner: Manner, headers: Entries) -> Option<usize>
+    requires { (shaped_all headers.count headers.bytes.now ≡ true) × (all params_stand (entries_in headers.count headers.bytes.now) ≡ true) }
+    ensures { (xs : List Header) → Listed layout_header xs headers.entry.bytes.now headers.entry.count → FirstFails (params_asked manner) xs result }
 {
     match manner {
-        Manner::Source => count_passing(Clause::NoParam, hs, headers),
-        Manner::Rfc => count_spaceless(hs, headers),
+        Manner::Source => first_failing(headers, |header| header.params.count == 0),
+        Manner::Rfc => first_failing(headers, has_spaceless_params),
     }
 }
 
 // The same for the ends of names (clause 5): the second reading takes any.
-fn names_passing(manner: Manner, hs: &[u8], headers: usize) -> usize
-    requires { shaped_all headers hs.now ≡ true }
-    ensures { (xs : List Header) → Listed layout_header xs hs.now headers → result ≡ passing (name_asked manner) xs }
+fn names_failing(manner: Manner, headers: Entries) -> Option<usize>
+    requires { shaped_all headers.count headers.bytes.now ≡ true }
+    ensures { (xs : List Header) → Listed layout_header xs headers.entry.bytes.now headers.entry.count → FirstFails (name_asked manner) xs result }
 {
     match manner {
-        Manner::Source => count_passing(Clause::ClearName, hs, headers),
-        Manner::Rfc => headers,
+        Manner::Source => first_failing(headers, |header| clear_ends(header.name)),
+        Manner::Rfc => None,
     }
 }
 
 // Clauses 1 to 4.
-fn early_loss(
-    manner: Manner,
-    hs: &[u8],
-    headers: usize,
-    cs: &[u8],
-    contents: usize,
-    body: &[u8],
-) -> Loss
-    requires { (shaped_all headers hs.now ≡ true) × (all params_stand (entries_in headers hs.now) ≡ true) × (shaped_all contents cs.now ≡ true) }
-    ensures { (xs : List Header) (ys : List Entry) → Listed layout_header xs hs.now headers → Listed layout_entry ys cs.now contents → result ≡ early manner xs ys body.now none_lost }
+fn early_loss(manner: Manner, headers: Entries, contents: Entries, body: &[u8]) -> Result<(), Lost>
+    requires { (shaped_all headers.count headers.bytes.now ≡ true) × (all params_stand (entries_in headers.count headers.bytes.now) ≡ true) × (shaped_all contents.count contents.bytes.now ≡ true) }
+    ensures { (xs : List Header) (ys : List Entry) → Listed layout_header xs headers.entry.bytes.now headers.entry.count → Listed layout_entry ys contents.entry.bytes.now contents.entry.count → told result ≡ early manner xs ys body.now none_lost }
 {
-    let kept = params_passing(manner, hs, headers);
-    let text = is_utf8(body);
-    let named = count_passing(Clause::NotType, cs, contents);
-    if headers == 0 {
-        return lost(1, 0);
+    if headers.count == 0 {
+        return Err(Lost::NoHeader);
     }
-    if kept < headers {
-        return lost(2, kept);
+    if let Some(entry) = params_failing(manner, headers) {
+        return Err(Lost::Params(entry));
     }
-    if !text {
-        return lost(3, 0);
+    if !is_utf8(body) {
+        return Err(Lost::BodyNotUtf8);
     }
-    if named < contents {
-        return lost(4, named);
+    if let Some(entry) = first_failing(contents, |content| !is_type(content.name)) {
+        return Err(Lost::ContentType(entry));
     }
-    lost(0, 0)
+    Ok(())
 }
 
 // Clauses 5 to 7.
-fn late_loss(
-    manner: Manner,
-    hs: &[u8],
-    headers: usize,
-    cs: &[u8],
-    contents: usize,
-    kind: &[u8],
-) -> Loss
-    requires { (shaped_all headers hs.now ≡ true) × (shaped_all contents cs.now ≡ true) }
-    ensures { (xs : List Header) (ys : List Entry) → Listed layout_header xs hs.now headers → Listed layout_entry ys cs.now contents → result ≡ late manner xs ys kind.now }
+fn late_loss(manner: Manner, headers: Entries, contents: Entries, kind: &[u8]) -> Result<(), Lost>
+    requires { (shaped_all headers.count headers.bytes.now ≡ true) × (shaped_all contents.count contents.bytes.now ≡ true) }
+    ensures { (xs : List Header) (ys : List Entry) → Listed layout_header xs headers.entry.bytes.now headers.entry.count → Listed layout_entry ys contents.entry.bytes.now contents.entry.count → told result ≡ late manner xs ys kind.now }
 {
-    let names = names_passing(manner, hs, headers);
-    let others = count_passing(Clause::ClearContent, cs, contents);
-    let clear = clear_ends(kind);
-    if names < headers {
-        return lost(5, names);
+    if let Some(entry) = names_failing(manner, headers) {
+        return Err(Lost::HeaderName(entry));
     }
-    if others < contents {
-        return lost(6, others);
+    if let Some(entry) = first_failing(contents, is_clear) {
+        return Err(Lost::ContentEnds(entry));
     }
-    if !clear {
-        return lost(7, 0);
+    if !clear_ends(kind) {
+        return Err(Lost::TypeEnds);
     }
-    lost(0, 0)
+    Ok(())
 }
 
 // What a message held loses on the way through its text, by the manner in which header lines are read.
-fn loss_by(manner: Manner, m: CpimMessage, head: &[u8], body: &[u8]) -> Loss
-    ensures { (o : Option Message) → Held (both_lent m head.now body.now) o → result ≡ loss_held_by manner o }
+fn loss_by(manner: Manner, m: CpimMessage, head: &[u8], body: &[u8]) -> Result<(), Lost>
+    ensures { (o : Option Message) → Held (both_lent m head.now body.now) o → told result ≡ loss_held_by manner o }
 {
     if !message_holds(m, head) {
-        return lost(9, 0);
+        return Err(Lost::NothingHeld);
     }
     if body.len() < m.bodylen {
-        return lost(9, 0);
+        return Err(Lost::NothingHeld);
     }
     let from = 256 + m.headerlen;
     let to = from + m.contentlen;
     let size = m.bodylen;
     let typed = m.typelen;
-    let hs = &head[256..from];
-    let cs = &head[from..to];
-    let first = early_loss(manner, hs, m.headers, cs, m.contents, &body[0..size]);
-    if first.clause != 0 {
-        return first;
-    }
-    late_loss(manner, hs, m.headers, cs, m.contents, &head[0..typed])
+    let headers = Entries {
+        bytes: &head[256..from],
+        count: m.headers,
+    };
+    let contents = Entries {
+        bytes: &head[from..to],
+        count: m.contents,
+    };
+    early_loss(manner, headers, contents, &body[0..size])?;
+    late_loss(manner, headers, contents, &head[0..typed])
 }
 
 // What a message held loses on the way through its text.
 pub fn loss_of(m: CpimMessage, head: &[u8], body: &[u8]) -> Loss
     ensures { (o : Option Message) → Held (both_lent m head.now body.now) o → result ≡ loss_held o }
 {
-    loss_by(Manner::Source, m, head, body)
+    Loss::from(loss_by(Manner::Source, m, head, body))
 }
 
 // Whether reading its text, with room for it, gives the message held.
@@ -155,7 +162,7 @@ pub fn comes_back(m: CpimMessage, head: &[u8], body: &[u8]) -> bool
     ensures condition { (o : Option Message) → Held (both_lent m head.now body.now) o → result ≡ whole_held o }
     ensures theorem { ReadsBack (both_lent m head.now body.now) result }
 {
-    loss_of(m, head, body).clause == 0
+    loss_by(Manner::Source, m, head, body).is_ok()
 }
 
 // Whether the second reading of its text, with room for it, gives the message held (document 02, T-01).
@@ -163,5 +170,5 @@ pub fn comes_back_rfc(m: CpimMessage, head: &[u8], body: &[u8]) -> bool
     ensures condition { (o : Option Message) → Held (both_lent m head.now body.now) o → result ≡ whole_held_rfc o }
     ensures theorem { ReadsBackRfc (both_lent m head.now body.now) result }
 {
-    loss_by(Manner::Rfc, m, head, body).clause == 0
+    loss_by(Manner::Rfc, m, head, body).is_ok()
 }

@@ -1,22 +1,20 @@
 -- One turn of the joining: the first section of what is left of a text is cut off, its part of the store is filled and put back, and the
 -- parts that are left are those of the sections behind it. Assumes nothing.
-use Rattle.std.specs.Prelude.{if◌then◌else◌}
+use Rattle.std.specs.Prelude.{if◌then◌else◌, None, Some}
 use Prim.Native.Nat.{ℕ, ◌+◌, ◌-◌, ◌≤◌, ◌<◌}
 use mathlib.Core.Path.{◌≡◌, sym, ap, ◌∙◌}
-use mathlib.Core.Bool.{Bool, true, false}
+use mathlib.Core.Bool.{Bool, true}
 use mathlib.Core.List.{List, [], ◌∷◌, ◌++◌}
-use mathlib.Core.Logic.{⊎_elim}
 use native.Mathlib.Omega.{arith}
 use lib.ListN.{length, take, drop}
 use lib.Seq.{length-take-le, take-length, drop-drop}
 use Rattle.format.specs.Bytes.{Bytes, lf_lf_text, pieces, split, total, pasted}
-use Rattle.format.proofs.Lists.{bcase}
 use Rattle.octets.proofs.Paste.{length_pasted}
 use Rattle.sections.specs.declared.Piece.{Piece}
-use Rattle.sections.specs.Body.{led, parts_from, filled}
+use Rattle.sections.specs.Body.{joined, led, parts_from, filled}
 use Rattle.sections.specs.Cuts.{cut_of}
-use Rattle.sections.proofs.Cutting.{rest_more, rest_last, rest_within, rest_whole}
-use Rattle.sections.proofs.BodyParts.{led_length, filled_next, filled_short}
+use Rattle.sections.proofs.Cutting.{by_next, rest_more, rest_last, rest_within, rest_whole}
+use Rattle.sections.proofs.BodyParts.{led_length, parts_total, filled_next, filled_short}
 
 -- the parts of a text's sections
 abbrev pub parts_in : Bool → Bytes → List Bytes
@@ -42,13 +40,13 @@ module _ (rest : Bytes) (from : ℕ) (ahead : Bool) (r : Piece) (cut : r ≡ cut
       ∙ sym size
 
   -- the parts that are left: another section follows, or none
-  pub parts_more : r.last ≡ false → parts_in ahead (drop from rest) ≡ led ahead (section_at rest from r.end) ∷ parts_in true (drop (from + r.next) rest)
+  pub parts_more : (next : ℕ) → r.next ≡ Some next → parts_in ahead (drop from rest) ≡ led ahead (section_at rest from r.end) ∷ parts_in true (drop (from + next) rest)
   unfolding parts_from
-  parts_more h =
-      ap (parts_from ahead) (rest_more lf_lf_text rest from r cut (omega arith) h).pieces_are
-      ∙ ap (λ (s : Bytes). led ahead s ∷ parts_in true (drop (from + r.next) rest)) cut_section
+  parts_more next h =
+      ap (parts_from ahead) (rest_more lf_lf_text rest from r cut next (omega arith) h).pieces_are
+      ∙ ap (λ (s : Bytes). led ahead s ∷ parts_in true (drop (from + next) rest)) cut_section
 
-  pub parts_last : r.last ≡ true → parts_in ahead (drop from rest) ≡ led ahead (section_at rest from r.end) ∷ []
+  pub parts_last : r.next ≡ None → parts_in ahead (drop from rest) ≡ led ahead (section_at rest from r.end) ∷ []
   unfolding parts_from
   parts_last h =
       ap (parts_from ahead) (rest_last lf_lf_text rest from r cut h)
@@ -58,7 +56,7 @@ module _ (rest : Bytes) (from : ℕ) (ahead : Bool) (r : Piece) (cut : r ≡ cut
   module _ (to : ℕ) (out : Bytes) where
     -- the part does not fit
     pub turn_short : length out < to + n → filled to (parts_in ahead (drop from rest)) out ≡ out
-    turn_short h = ⊎_elim (λ l. by [] (parts_last l)) (λ m. by _ (parts_more m)) (bcase r.last)
+    turn_short h = by_next r.next (λ l. by [] (parts_last l)) (λ next m. by _ (parts_more next m))
       where
         by : (ps : List Bytes) → parts_in ahead (drop from rest) ≡ led ahead (section_at rest from r.end) ∷ ps → filled to (parts_in ahead (drop from rest)) out ≡ out
         by ps e = ap (λ (qs : List Bytes). filled to qs out) e ∙ filled_short to (led ahead (section_at rest from r.end)) ps out (omega (arith, part_size))
@@ -83,19 +81,23 @@ module _ (rest : Bytes) (from : ℕ) (ahead : Bool) (r : Piece) (cut : r ≡ cut
           ∙ ap (λ (k : ℕ). filled (to + k) ps (pasted to (led ahead (section_at rest from r.end)) out)) part_size
           ∙ ap (filled (to + n) ps) (sym put_back)
 
-      pub turn_more : r.last ≡ false
-          → filled to (parts_in ahead (drop from rest)) out ≡ filled (to + n) (parts_in true (drop (from + r.next) rest)) (take to out ++ (part ++ drop (to + n - to) (drop to out)))
-      turn_more h = turn_on _ (parts_more h)
+      pub turn_more : (next : ℕ) → r.next ≡ Some next
+          → filled to (parts_in ahead (drop from rest)) out ≡ filled (to + n) (parts_in true (drop (from + next) rest)) (take to out ++ (part ++ drop (to + n - to) (drop to out)))
+      turn_more next h = turn_on _ (parts_more next h)
 
-      pub turn_last : r.last ≡ true → filled to (parts_in ahead (drop from rest)) out ≡ take to out ++ (part ++ drop (to + n - to) (drop to out))
+      pub turn_last : r.next ≡ None → filled to (parts_in ahead (drop from rest)) out ≡ take to out ++ (part ++ drop (to + n - to) (drop to out))
       unfolding filled
       turn_last h = turn_on [] (parts_last h)
 
   -- the bytes that are left to be counted
-  pub count_more : r.last ≡ false → total length (parts_in ahead (drop from rest)) ≡ n + total length (parts_in true (drop (from + r.next) rest))
+  pub count_more : (next : ℕ) → r.next ≡ Some next → total length (parts_in ahead (drop from rest)) ≡ n + total length (parts_in true (drop (from + next) rest))
   unfolding total
-  count_more h = ap (total length) (parts_more h) ∙ ap (λ (k : ℕ). k + total length (parts_in true (drop (from + r.next) rest))) part_size
+  count_more next h = ap (total length) (parts_more next h) ∙ ap (λ (k : ℕ). k + total length (parts_in true (drop (from + next) rest))) part_size
 
-  pub count_last : r.last ≡ true → total length (parts_in ahead (drop from rest)) ≡ n
+  pub count_last : r.next ≡ None → total length (parts_in ahead (drop from rest)) ≡ n
   unfolding total
   count_last h = ap (total length) (parts_last h) ∙ omega (arith, part_size)
+
+  -- the length of all that is left
+  pub left_count : (next : ℕ) → r.next ≡ Some next → total length (parts_in ahead (drop from rest)) ≡ n + 4 + length (joined (drop (from + next) rest))
+  left_count next h = omega (arith, count_more next h, parts_total true (split lf_lf_text (drop (from + next) rest)))

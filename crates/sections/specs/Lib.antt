@@ -1,4 +1,5 @@
 pub mod Block
 pub mod Body
 pub mod Cuts
+pub mod Finding
 pub mod Place

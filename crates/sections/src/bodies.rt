@@ -10,6 +10,7 @@ use crate::cut;
 use octets::copy_at;
 
 // How many bytes the sections of the rest take, joined.
+#[tactic(auto, using(crate::proofs::Joining::left_last, crate::proofs::Joining::joined_bound))]
 pub fn joined_len(rest: &[u8]) -> usize
     requires { length rest.now ≤ max_text }
     ensures { result ≡ length (joined rest.now) }
@@ -18,11 +19,11 @@ pub fn joined_len(rest: &[u8]) -> usize
     let mut at: usize = 0;
     loop {
         let piece = cut(&rest[at..], b"\n\n");
-        if piece.last {
+        let Some(next) = piece.next else {
             return len + piece.end;
-        }
+        };
         len += piece.end + 4;
-        at += piece.next;
+        at += next;
     }
 }
 
@@ -31,10 +32,7 @@ fn led_len(n: usize, ahead: bool) -> usize
     requires { n ≤ max_text }
     ensures { result ≡ (if ahead then 4 else 0) + n }
 {
-    if ahead {
-        return 4 + n;
-    }
-    n
+    if ahead { 4 + n } else { n }
 }
 
 // A step of the joining: one section, with CRLFCRLF ahead of it where another stands before it, over all of the part that is lent for it.
@@ -64,20 +62,20 @@ pub fn join_body(out: &mut [u8], rest: &[u8]) -> usize
         let piece = cut(&rest[from..], b"\n\n");
         let n = led_len(piece.end, ahead);
         if out.len() - to < n {
-            if piece.last {
+            let Some(next) = piece.next else {
                 return to + n;
-            }
-            let behind = from + piece.next;
+            };
+            let behind = from + next;
             return to + n + 4 + joined_len(&rest[behind..]);
         }
         let end = to + n;
         let stop = from + piece.end;
         fill_section(&mut out[to..end], &rest[from..stop], ahead);
-        if piece.last {
+        let Some(next) = piece.next else {
             return end;
-        }
+        };
         to = end;
-        from += piece.next;
+        from += next;
         ahead = true;
     }
 }

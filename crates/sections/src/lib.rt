@@ -15,27 +15,22 @@ ghost use Rattle.sections.specs.Cuts.{cut_of, line_end_for, separator_for, place
 
 use crate::search::find;
 
-// The first piece of a text: its bytes are those before end; next is the place behind the separator, or the length; last
-// where there is no separator.
+// The first piece of a text: its bytes are those before end, and next is the place behind the separator, if there is one.
 #[derive(Clone, Copy)]
 pub struct Piece {
     pub end: usize,
-    pub next: usize,
-    pub last: bool,
+    pub next: Option<usize>,
 }
 
 // The first three sections: 0 to end1, start2 to end2, start3 to end3; the others are those of the text from rest on.
 #[derive(Clone, Copy)]
-pub enum Places {
-    Few,
-    Four {
-        end1: usize,
-        start2: usize,
-        end2: usize,
-        start3: usize,
-        end3: usize,
-        rest: usize,
-    },
+pub struct Places {
+    pub end1: usize,
+    pub start2: usize,
+    pub end2: usize,
+    pub start3: usize,
+    pub end3: usize,
+    pub rest: usize,
 }
 
 // "The separator is CRLFCRLF if it occurs anywhere, else LFLF": true for CRLFCRLF.
@@ -59,16 +54,11 @@ pub fn cut(text: &[u8], pattern: &[u8]) -> Piece
 {
     let end = find(text, pattern);
     if end == text.len() {
-        return Piece {
-            end: end,
-            next: end,
-            last: true,
-        };
+        return Piece { end, next: None };
     }
     Piece {
-        end: end,
-        next: end + pattern.len(),
-        last: false,
+        end,
+        next: Some(end + pattern.len()),
     }
 }
 
@@ -76,47 +66,33 @@ pub fn cut(text: &[u8], pattern: &[u8]) -> Piece
 pub fn cut_line(text: &[u8], crlf: bool) -> Piece
     ensures { result ≡ cut_of (line_end_for crlf) text.now }
 {
-    if crlf {
-        return cut(text, b"\r\n");
-    }
-    cut(text, b"\n")
+    cut(text, if crlf { b"\r\n" } else { b"\n" })
 }
 
 // The first section of what is left of a text.
 pub fn cut_section(text: &[u8], crlf: bool) -> Piece
     ensures { result ≡ cut_of (separator_for crlf) text.now }
 {
-    if crlf {
-        return cut(text, b"\r\n\r\n");
-    }
-    cut(text, b"\n\n")
+    cut(text, if crlf { b"\r\n\r\n" } else { b"\n\n" })
 }
 
-// The first three sections, and where the fourth starts; 2 is due where there are fewer than 4.
-pub fn first_three(text: &[u8], crlf: bool) -> Places
+// The first three sections, and where the fourth starts; there are none of these where there are fewer than 4, and 2 is due.
+pub fn first_three(text: &[u8], crlf: bool) -> Option<Places>
     ensures places { result ≡ places_of (separator_for crlf) text.now }
     ensures parts { parts_at (separator_for crlf) text.now result ≡ parts_of (pieces (split (separator_for crlf) text.now)) }
 {
     let one = cut_section(text, crlf);
-    if one.last {
-        return Places::Few;
-    }
-    let start2 = one.next;
+    let start2 = one.next?;
     let two = cut_section(&text[start2..], crlf);
-    if two.last {
-        return Places::Few;
-    }
-    let start3 = start2 + two.next;
+    let start3 = start2 + two.next?;
     let three = cut_section(&text[start3..], crlf);
-    if three.last {
-        return Places::Few;
-    }
-    Places::Four {
+    let rest = start3 + three.next?;
+    Some(Places {
         end1: one.end,
-        start2: start2,
+        start2,
         end2: start2 + two.end,
-        start3: start3,
+        start3,
         end3: start3 + three.end,
-        rest: start3 + three.next,
-    }
+        rest,
+    })
 }

@@ -38,6 +38,15 @@ pub sizes_parts : (r : CpimHeader) (store : ℕ) → sizes_hold r store ≡ true
 unfolding sizes_hold
 sizes_parts r store h = omega (arith, simp tests at h)
 
+-- the same for the search
+pub sizes_whole : (r : CpimHeader) (store : ℕ) → sizes_hold r store ≡ true → r.size ≤ store
+sizes_whole r store h = (sizes_parts r store h).whole
+
+pub sizes_used : (r : CpimHeader) (store : ℕ) → sizes_hold r store ≡ true → 16 + r.valuelen ≤ r.size
+sizes_used r store h = (sizes_parts r store h).used
+
+pub ruleset sized = (sizes_whole, sizes_used)
+
 pub parts_sizes : (r : CpimHeader) (store : ℕ) → Sized r store → sizes_hold r store ≡ true
 unfolding sizes_hold
 parts_sizes r store s = simp tests (omega arith)

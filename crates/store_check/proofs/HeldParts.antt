@@ -5,8 +5,8 @@ use mathlib.Core.Path.{◌≡◌, refl, sym, ap, ◌∙◌}
 use mathlib.Core.Bool.{true}
 use mathlib.Core.List.{◌++◌, map, append_assoc}
 use native.Mathlib.Omega.{arith}
-use lib.ListN.{length, take, drop, replicate, length-append, length-replicate, take-append-drop}
-use lib.Seq.{take_at, drop_at, drop-drop}
+use lib.ListN.{length, take, drop, replicate, length-append, length-drop, length-replicate, take-append-drop}
+use lib.Seq.{take_at, take_all, drop_at, drop-drop}
 use Rattle.format.specs.Bytes.{Bytes, total, texts}
 use Rattle.format.specs.Message.{LoneHeader, Message, need_entry, need_header, need_alone, need}
 use Rattle.format.specs.Layout.{layout_entry, layout_header, layout, layout_alone, record_of, header_of, Lent, Holds, HoldsAlone}
@@ -22,6 +22,10 @@ pub part_of : (at n : ℕ) (s : Bytes) → take (at + n - at) (drop at s) ≡ ta
 part_of at n s =
     let e : at + n - at ≡ n = omega arith in
     ap (λ (k : ℕ). take k (drop at s)) e
+
+-- the bytes from a place on
+pub rest_of : (at : ℕ) (s : Bytes) → take (length s - at) (drop at s) ≡ drop at s
+rest_of at s = take_all (length s - at) (drop at s) (simp length-drop (omega arith))
 
 -- Bytes in three parts and a rest: each stands behind those before it.
 pub record Cut (a b c : Bytes) (n m k : ℕ) (s : Bytes) : Type 0 where

@@ -43,6 +43,18 @@ pub numbers_parts : (m : CpimMessage) (store : ℕ) → numbers_hold m store ≡
 unfolding numbers_hold
 numbers_parts m store h = omega (arith, simp tests at h)
 
+-- the same for the search
+pub numbers_start : (m : CpimMessage) (store : ℕ) → numbers_hold m store ≡ true → 256 ≤ store
+numbers_start m store h = (numbers_parts m store h).start
+
+pub numbers_type : (m : CpimMessage) (store : ℕ) → numbers_hold m store ≡ true → m.typelen ≤ 256
+numbers_type m store h = (numbers_parts m store h).type_short
+
+pub numbers_used : (m : CpimMessage) (store : ℕ) → numbers_hold m store ≡ true → 256 + m.headerlen + m.contentlen ≤ store
+numbers_used m store h = (numbers_parts m store h).used
+
+pub ruleset numbered = (numbers_start, numbers_type, numbers_used)
+
 pub parts_numbers : (m : CpimMessage) (store : ℕ) → Numbered m store → numbers_hold m store ≡ true
 unfolding numbers_hold
 parts_numbers m store n = simp tests (omega arith)

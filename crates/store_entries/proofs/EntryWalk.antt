@@ -60,14 +60,6 @@ module _ (p : Stored → Bool) (s : Bytes) (from count : ℕ) where
       pub walk_shape : Shape (drop (from + size) s)
       walk_shape = shape (drop (from + size) s) walk_shaped
 
-      -- the entry at the place reached is within the bytes
-      pub walk_within : from + size + size_in (drop (from + size) s) ≤ length s
-      unfolding size_in
-      walk_within = omega (arith, walk_shape.whole, walk_shape.numbers, length-drop (from + size) s)
-
-      pub walk_numbers : from + size + 16 ≤ length s
-      walk_numbers = omega (arith, walk_shape.numbers, length-drop (from + size) s)
-
       -- it stops the walk
       pub walk_stop : p (stored_in (drop (from + size) s)) ≡ false
           → (total stored_size (whilst p (entries_in count (drop from s))) ≡ size) × (length (whilst p (entries_in count (drop from s))) ≡ many)
@@ -126,6 +118,9 @@ module _ (s : Bytes) (from count n : ℕ) (all : n ≤ count) where
         omega (arith, w.bytes ∙ ap (λ (xs : List Stored). size + total stored_size xs) (no_entry (n - many) (drop (from + size) s) (omega arith)))
 
     module _ (more : many < n) where
+      pub first_shaped : shaped (drop (from + size) s) ≡ true
+      first_shaped = (next_shaped (count - many) (drop (from + size) s) (omega arith) w.left).0
+
       pub first_shape : Shape (drop (from + size) s)
       first_shape =
           shape (drop (from + size) s) (next_shaped (count - many) (drop (from + size) s) (omega arith) w.left).0

@@ -10,33 +10,28 @@ ghost use Rattle.std.specs.Prelude.{◌≡◌, true, ◌+◌, ◌*◌, ◌≤◌
 ghost use Rattle.format.specs.Bytes.{all};
 ghost use Rattle.store_entries.specs.Stored.{name_length, value_length, param_count, tail_length, size_in, name_in, value_in, tail_in, shaped};
 
-// Every byte is zero.
+// Every byte is zero. All are looked at, with no early exit as in `all`, so that many are tested at a time.
 pub fn is_zero(s: &[u8]) -> bool
     ensures { result ≡ all (eqb 0) s.now }
 {
-    let mut zero = true;
-    let mut i = 0;
-    while i < s.len() {
-        zero = zero & (0 == s[i]);
-        i += 1;
-    }
-    zero
+    s.iter().fold(true, |zero, b| zero & (*b == 0))
 }
 
 // Numbers of one byte and of two, the low one first.
 fn one_byte(b: u8) -> usize
     ensures { (result ≡ b) × (result < 256) }
 {
-    b as usize
+    usize::from(b)
 }
 
 fn two_bytes(low: u8, high: u8) -> usize
     ensures { (result ≡ low + 256 * high) × (low < 256) × (result < 65536) }
 {
-    low as usize + 256 * (high as usize)
+    usize::from(u16::from_le_bytes([low, high]))
 }
 
 // The numbers of the entry at a place.
+#[tactic(auto, using(crate::proofs::EntryShape::name_at))]
 pub fn name_len(s: &[u8], at: usize) -> usize
     requires { at + 16 ≤ length s.now }
     ensures { (result ≡ name_length (drop at s.now)) × (result < 256) }
@@ -51,6 +46,7 @@ pub fn value_len(s: &[u8], at: usize) -> usize
     two_bytes(s[at + 1], s[at + 2])
 }
 
+#[tactic(auto, using(crate::proofs::EntryShape::params_at))]
 pub fn param_count(s: &[u8], at: usize) -> usize
     requires { at + 16 ≤ length s.now }
     ensures { (result ≡ param_count (drop at s.now)) × (result < 256) }
@@ -66,6 +62,7 @@ pub fn tail_len(s: &[u8], at: usize) -> usize
 }
 
 // How many bytes it takes.
+#[tactic(auto, using(crate::proofs::EntryShape::size_of))]
 pub fn entry_len(s: &[u8], at: usize) -> usize
     requires { at + 16 ≤ length s.now }
     ensures { (result ≡ size_in (drop at s.now)) × (result < 131344) × (get_or (drop at s.now) 1 0 < 256) × (get_or (drop at s.now) 4 0 < 256) }
@@ -74,22 +71,16 @@ pub fn entry_len(s: &[u8], at: usize) -> usize
 }
 
 // Whether an entry's bytes stand at a place.
+#[tactic(auto, unfolding(crate::specs::Stored::shaped), using(crate::proofs::EntryShape::zero_part))]
 pub fn is_shaped(s: &[u8], at: usize) -> bool
     requires { at ≤ length s.now }
     ensures { result ≡ shaped (drop at s.now) }
 {
-    if s.len() - at < 16 {
-        return false;
-    }
-    let from = at + 6;
-    let to = at + 16;
-    if !is_zero(&s[from..to]) {
-        return false;
-    }
-    entry_len(s, at) <= s.len() - at
+    16 <= s.len() - at && is_zero(&s[at + 6..at + 16]) && entry_len(s, at) <= s.len() - at
 }
 
 // The parts of the entry at a place.
+#[tactic(auto, using(crate::proofs::EntryShape::within_numbers, crate::proofs::EntryShape::within_parts, crate::proofs::EntryShape::name_part))]
 pub fn name_at<'a>(s: &'a [u8], at: usize) -> &'a [u8]
     requires { shaped (drop at s.now) ≡ true }
     ensures { result.now ≡ name_in (drop at s.now) }
@@ -99,6 +90,7 @@ pub fn name_at<'a>(s: &'a [u8], at: usize) -> &'a [u8]
     &s[from..to]
 }
 
+#[tactic(auto, using(crate::proofs::EntryShape::within_numbers, crate::proofs::EntryShape::within_parts, crate::proofs::EntryShape::value_part_lem))]
 pub fn value_at<'a>(s: &'a [u8], at: usize) -> &'a [u8]
     requires { shaped (drop at s.now) ≡ true }
     ensures { result.now ≡ value_in (drop at s.now) }
@@ -108,6 +100,7 @@ pub fn value_at<'a>(s: &'a [u8], at: usize) -> &'a [u8]
     &s[from..to]
 }
 
+#[tactic(auto, using(crate::proofs::EntryShape::within_numbers, crate::proofs::EntryShape::within_parts, crate::proofs::EntryShape::tail_part))]
 pub fn tail_at<'a>(s: &'a [u8], at: usize) -> &'a [u8]
     requires { shaped (drop at s.now) ≡ true }
     ensures { result.now ≡ tail_in (drop at s.now) }

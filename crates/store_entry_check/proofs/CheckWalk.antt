@@ -5,12 +5,12 @@ use mathlib.Core.Bool.{Bool, true, false, ◌&&◌}
 use mathlib.Core.List.{[], ◌∷◌}
 use native.Mathlib.Omega.{arith}
 use lib.Dec.{eqb}
-use lib.ListN.{length, take, drop, length-drop}
+use lib.ListN.{length, drop, length-drop}
 use lib.Seq.{drop-drop}
 use borrow.Author.Tests.{eq-eqb, ne_eqb}
 use Rattle.format.specs.Bytes.{Bytes, is_empty, all}
 use Rattle.format.proofs.Rulesets.{tests}
-use Rattle.store_entries.specs.Stored.{name_length, size_in, name_in, stored_in, shaped, shaped_all, entries_in}
+use Rattle.store_entries.specs.Stored.{size_in, name_in, stored_in, shaped, shaped_all, entries_in}
 use Rattle.store_entries.proofs.EntryShape.{within_size, within_numbers}
 use Rattle.store_entries.proofs.Sequences.{next_shaped, next_entry}
 use Rattle.store_entry_check.specs.EntriesHold.{entry_holds, entries_hold, tail_holds}
@@ -43,30 +43,24 @@ pub holds_shape : (k : Kind) (last s : Bytes) → entry_holds k last s ≡ true 
 unfolding entry_holds
 holds_shape k last s h = (simp tests at h).0
 
--- i of count entries have been judged, up to the place at; the last name stands at from..to
-pub record Judged (k : Kind) (s : Bytes) (count at from to i : ℕ) : Type 0 where
-  pub within : i ≤ count
+-- i of count entries have been judged, up to the place at; the last has the name
+pub record Judged (k : Kind) (s : Bytes) (count at : ℕ) (last : Bytes) (i : ℕ) : Type 0 where
   pub place : at ≤ length s
-  pub name_start : from ≤ to
-  pub name_end : to ≤ length s
-  pub same : entries_hold k count [] s ≡ entries_hold k (count - i) (take (to - from) (drop from s)) (drop at s)
+  pub same : entries_hold k count [] s ≡ entries_hold k (count - i) last (drop at s)
 
 module _ (k : Kind) (s : Bytes) (count : ℕ) where
-  pub judged_start : Judged k s count 0 0 0 0
+  pub judged_start : Judged k s count 0 [] 0
   judged_start =
       let e : count ≡ count - 0 = omega arith in
-      record { within = omega arith; place = omega arith; name_start = omega arith; name_end = omega arith; same = ap (λ (n : ℕ). entries_hold k n [] s) e }
+      record { place = omega arith; same = ap (λ (n : ℕ). entries_hold k n [] s) e }
 
-  module _ (at from to i : ℕ) (w : Judged k s count at from to i) where
+  module _ (at : ℕ) (last : Bytes) (i : ℕ) (w : Judged k s count at last i) where
     -- none is left
     pub judged_end : count ≤ i → eqb at (length s) ≡ entries_hold k count [] s
     judged_end h =
-        end_empty s at w.place ∙ sym (none_holds k (count - i) (take (to - from) (drop from s)) (drop at s) (omega arith)) ∙ sym w.same
+        end_empty s at w.place ∙ sym (none_holds k (count - i) last (drop at s) (omega arith)) ∙ sym w.same
 
     module _ (more : i < count) where
-      abbrev last : Bytes
-      last = take (to - from) (drop from s)
-
       -- it does not hold
       pub judged_stop : entry_holds k last (drop at s) ≡ false → false ≡ entries_hold k count [] s
       judged_stop h =
@@ -77,40 +71,30 @@ module _ (k : Kind) (s : Bytes) (count : ℕ) where
 
       -- it holds
       module _ (h : entry_holds k last (drop at s) ≡ true) where
+        pub judged_shaped : shaped (drop at s) ≡ true
+        judged_shaped = holds_shape k last (drop at s) h
+
         pub judged_numbers : at + 16 ≤ length s
-        judged_numbers = within_numbers s at (holds_shape k last (drop at s) h)
+        judged_numbers = within_numbers s at judged_shaped
 
         pub judged_size : at + size_in (drop at s) ≤ length s
-        judged_size = within_size s at (holds_shape k last (drop at s) h)
+        judged_size = within_size s at judged_shaped
 
-        pub judged_name : at + (16 + name_length (drop at s)) ≤ length s
-        unfolding size_in
-        judged_name = omega (arith, judged_size)
-
-        pub judged_on : Judged k s count (at + size_in (drop at s)) (at + 16) (at + 16 + name_length (drop at s)) (i + 1)
-        unfolding name_in
+        pub judged_on : Judged k s count (at + size_in (drop at s)) (name_in (drop at s)) (i + 1)
         judged_on =
             let t = drop at s in
-            let n = name_length t in
             let d : drop (size_in t) t ≡ drop (at + size_in t) s = drop-drop (size_in t) at s in
-            let name : name_in t ≡ take (at + 16 + n - (at + 16)) (drop (at + 16) s) =
-            (let e : n ≡ at + 16 + n - (at + 16) = omega arith in
-            ap (take n) (drop-drop 16 at s) ∙ ap (λ (j : ℕ). take j (drop (at + 16) s)) e) in
             let left : count - i - 1 ≡ count - (i + 1) = omega arith in
             record {
-              within = omega arith;
               place = judged_size;
-              name_start = omega arith;
-              name_end = omega (arith, judged_name);
               same = w.same
                   ∙ one_holds k (count - i) last t (omega arith)
                   ∙ ap (λ (b : Bool). b && entries_hold k (count - i - 1) (name_in t) (drop (size_in t) t)) h
-                  ∙ (λ j. entries_hold k (left j) (name j) (d j));
+                  ∙ (λ j. entries_hold k (left j) (name_in t) (d j));
             }
 
 -- the parameters of i of count headers have been judged, up to the place at
 pub record Looked (s : Bytes) (count at i : ℕ) : Type 0 where
-  pub within : i ≤ count
   pub left : shaped_all (count - i) (drop at s) ≡ true
   pub same : all tail_holds (entries_in count s) ≡ all tail_holds (entries_in (count - i) (drop at s))
 
@@ -119,7 +103,6 @@ module _ (s : Bytes) (count : ℕ) where
   looked_start h =
       let e : count ≡ count - 0 = omega arith in
       record {
-        within = omega arith;
         left = ap (λ (n : ℕ). shaped_all n s) (sym e) ∙ h;
         same = ap (λ (n : ℕ). all tail_holds (entries_in n s)) e;
       }
@@ -163,7 +146,11 @@ module _ (s : Bytes) (count : ℕ) where
           let left : count - i - 1 ≡ count - (i + 1) = omega arith in
           let d : drop (size_in t) t ≡ drop (at + size_in t) s = drop-drop (size_in t) at s in
           record {
-            within = omega arith;
             left = (λ j. shaped_all (sym left j) (sym d j)) ∙ (next_shaped (count - i) t (omega arith) w.left).1;
             same = looked_next ∙ ap (λ (b : Bool). b && all tail_holds (entries_in (count - (i + 1)) (drop (at + size_in t) s))) h;
           }
+
+-- the two walks
+pub ruleset judged = (judged_start, judged_end, judged_stop, judged_shaped, judged_numbers, judged_size, judged_on)
+
+pub ruleset looked = (looked_start, looked_end, looked_shaped, looked_numbers, looked_size, looked_stop, looked_on)

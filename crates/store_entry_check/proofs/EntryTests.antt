@@ -1,5 +1,4 @@
 -- The tests of an entry, on its parts as they were read. Assumes nothing.
-use Prim.Native.Nat.{ℕ}
 use mathlib.Core.Path.{◌≡◌, refl, sym, ap, ◌∙◌}
 use mathlib.Core.Bool.{Bool, true, false, ◌&&◌, and-true, and-false, and_comm}
 use mathlib.Core.List.{[]}
@@ -21,13 +20,12 @@ in_order true b true false e = and-false b ∙ sym (ap (λ (x : Bool). e && x) (
 in_order true b true true e = and_comm b e ∙ ap (λ (x : Bool). e && x) (sym (and-true b))
 
 -- name, value and parameters
-pub fits_read : (k : Kind) (s name value tail : Bytes) (n : ℕ) → name ≡ name_in s → value ≡ value_in s → n ≡ param_count s → tail ≡ tail_in s
-    → (name_fits k name && (value_fits k value && params_fit k n tail)) ≡ fits k (stored_in s)
+pub fits_read : (k : Kind) (s : Bytes) → fits k (stored_in s) ≡ (name_fits k (name_in s) && (value_fits k (value_in s) && params_fit k (param_count s) (tail_in s)))
 unfolding fits stored_in name_fits value_fits
-fits_read k s name value tail n a b c d =
-    in_order (passes (name_check k name)) (is_utf8 name) (passes (value_check k value)) (is_utf8 value) (params_fit k n tail) ∙ rw (a, b, c, d) refl
+fits_read k s =
+    sym (in_order (passes (name_check k (name_in s))) (is_utf8 (name_in s)) (passes (value_check k (value_in s))) (is_utf8 (value_in s)) (params_fit k (param_count s) (tail_in s)))
 
 -- the walk into an entry's parameters
-pub tail_read : (s tail : Bytes) (n : ℕ) (r : Bool) → tail ≡ tail_in s → n ≡ param_count s → r ≡ entries_hold Param n [] tail → tail_holds (stored_in s) ≡ r
+pub tail_read : (s : Bytes) → tail_holds (stored_in s) ≡ entries_hold Param (param_count s) [] (tail_in s)
 unfolding tail_holds stored_in
-tail_read s tail n r a b e = rw (sym a, sym b) (sym e)
+tail_read s = refl

@@ -1,6 +1,5 @@
 pub mod EntriesListed
 pub mod HeadersListed
-pub mod InTurn
 pub mod Light
 pub mod NameOrder
 pub mod LightPasses

@@ -61,7 +61,18 @@ graded_name false true n h = absurd (omega arith)
 graded_name false false true h = absurd (omega arith)
 graded_name false false false h = refl
 
+graded_fits : (c v n : Bool) → graded c v n < 256
+unfolding graded
+graded_fits true v n = omega arith
+graded_fits false true n = omega arith
+graded_fits false false true = omega arith
+graded_fits false false false = omega arith
+
 module _ (b : ℕ) where
+  pub weight_fits : weight b < 256
+  unfolding weight
+  weight_fits = graded_fits (is_ascii_control b || leb 0x80 b) (reserved_in_param_value b) (reserved_in_param_name b || reserved_in_name b)
+
   plain : weight b < 255 → (is_ascii_control b || leb 0x80 b) ≡ false
   unfolding weight
   plain h = graded_plain (is_ascii_control b || leb 0x80 b) (reserved_in_param_value b) (reserved_in_param_name b || reserved_in_name b) h

@@ -2,10 +2,9 @@
 // text that is light (weights.rt) passes both at once; any other is put to them.
 
 ghost use Rattle.std.specs.Prelude.{◌≡◌};
-ghost use Rattle.store_entry_check.specs.Weights.{weights};
 ghost use Rattle.store_entry_check.specs.Fitting.{limit_of, name_fits, value_fits};
 
-use crate::kinds::Kind;
+use crate::kinds::{Kind, name_passes, value_passes};
 use crate::weights::is_light;
 use utf8::is_utf8;
 
@@ -14,37 +13,21 @@ fn limit_of(kind: Kind) -> usize
     ensures { result ≡ limit_of kind }
 {
     match kind {
-        Kind::Header => 255,
+        Kind::Header | Kind::Content => 255,
         Kind::Param => 32,
-        Kind::Content => 255,
     }
 }
 
-pub fn name_fits(table: &[u8; 256], kind: Kind, name: &[u8]) -> bool
-    requires { table.now ≡ weights }
+#[tactic(auto, unfolding(crate::specs::Fitting::name_fits), using(crate::proofs::LightPasses::name_light, crate::proofs::LightPasses::empty_name_lem, validate::proofs::EmptyText::empty_length))]
+pub fn name_fits(kind: Kind, name: &[u8]) -> bool
     ensures { result ≡ name_fits kind name.now }
 {
-    if name.len() == 0 {
-        return false;
-    }
-    if is_light(table, name, 1) {
-        return true;
-    }
-    if !crate::kinds::name_passes(kind, name) {
-        return false;
-    }
-    is_utf8(name)
+    !name.is_empty() && (is_light(name, 1) || name_passes(kind, name) && is_utf8(name))
 }
 
-pub fn value_fits(table: &[u8; 256], kind: Kind, value: &[u8]) -> bool
-    requires { table.now ≡ weights }
+#[tactic(auto, unfolding(crate::specs::Fitting::value_fits), using(crate::proofs::LightPasses::value_light, validate::proofs::EmptyText::empty_length))]
+pub fn value_fits(kind: Kind, value: &[u8]) -> bool
     ensures { result ≡ value_fits kind value.now }
 {
-    if is_light(table, value, limit_of(kind)) {
-        return true;
-    }
-    if !crate::kinds::value_passes(kind, value) {
-        return false;
-    }
-    is_utf8(value)
+    is_light(value, limit_of(kind)) || value_passes(kind, value) && is_utf8(value)
 }

@@ -5,6 +5,8 @@ ghost use Rattle.std.specs.Prelude.{◌≡◌};
 ghost use Rattle.format.specs.Refusals.{passes};
 ghost use Rattle.store_entry_check.specs.Kinds.{name_check, value_check, params_fit, follows};
 
+use octets::compare::before;
+
 pub const MAX_PARAMS_PER_HEADER: usize = 10;
 
 // What an entry is.
@@ -15,44 +17,45 @@ pub enum Kind {
     Content,
 }
 
+#[tactic(auto, unfolding(crate::specs::Kinds::name_check), using(validate::proofs::Chains::ok_passes))]
 pub fn name_passes(kind: Kind, name: &[u8]) -> bool
     ensures { result ≡ passes (name_check kind name.now) }
 {
     match kind {
-        Kind::Header => validate::validate_header_name(name).number == 0,
-        Kind::Param => validate::validate_param_name(name).number == 0,
-        Kind::Content => validate::validate_header_name(name).number == 0,
+        Kind::Header | Kind::Content => validate::validate_header_name(name).is_ok(),
+        Kind::Param => validate::validate_param_name(name).is_ok(),
     }
 }
 
+#[tactic(auto, unfolding(crate::specs::Kinds::value_check), using(validate::proofs::Chains::ok_passes))]
 pub fn value_passes(kind: Kind, value: &[u8]) -> bool
     ensures { result ≡ passes (value_check kind value.now) }
 {
     match kind {
-        Kind::Header => validate::validate_cpim_header_value(value).number == 0,
-        Kind::Param => validate::validate_param_value(value).number == 0,
-        Kind::Content => validate::validate_content_header_value(value).number == 0,
+        Kind::Header => validate::validate_cpim_header_value(value).is_ok(),
+        Kind::Param => validate::validate_param_value(value).is_ok(),
+        Kind::Content => validate::validate_content_header_value(value).is_ok(),
     }
 }
 
 // Parameters have none of their own, and neither have content headers.
+#[tactic(auto, unfolding(crate::specs::Kinds::params_fit), using(validate::proofs::EmptyText::empty_length))]
 pub fn params_fit(kind: Kind, params: usize, tail: &[u8]) -> bool
     ensures { result ≡ params_fit kind params tail.now }
 {
     match kind {
         Kind::Header => params <= MAX_PARAMS_PER_HEADER,
-        Kind::Param => (params == 0) & (tail.len() == 0),
-        Kind::Content => (params == 0) & (tail.len() == 0),
+        Kind::Param | Kind::Content => params == 0 && tail.is_empty(),
     }
 }
 
 // Whether a name may stand behind the last one.
+#[tactic(auto, unfolding(crate::specs::Kinds::follows))]
 pub fn name_follows(kind: Kind, last: &[u8], name: &[u8]) -> bool
     ensures { result ≡ follows kind last.now name.now }
 {
     match kind {
-        Kind::Header => !octets::compare::before(name, last),
-        Kind::Param => octets::compare::before(last, name),
-        Kind::Content => octets::compare::before(last, name),
+        Kind::Header => !before(name, last),
+        Kind::Param | Kind::Content => before(last, name),
     }
 }

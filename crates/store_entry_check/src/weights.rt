@@ -6,7 +6,7 @@ ghost use Rattle.format.specs.Bytes.{total};
 ghost use Rattle.store_entry_check.specs.Weights.{weight, weights, is_light};
 
 // The weight of each byte, 16 to a line.
-const WEIGHTS: [u8; 256] = *b"\
+static WEIGHTS: [u8; 256] = *b"\
     \xff\xff\xff\xff\xff\xff\xff\xff\xff\xff\xff\xff\xff\xff\xff\xff\
     \xff\xff\xff\xff\xff\xff\xff\xff\xff\xff\xff\xff\xff\xff\xff\xff\
     \0\0\x20\0\0\0\0\0\0\0\0\0\0\0\0\0\
@@ -24,41 +24,29 @@ const WEIGHTS: [u8; 256] = *b"\
     \xff\xff\xff\xff\xff\xff\xff\xff\xff\xff\xff\xff\xff\xff\xff\xff\
     \xff\xff\xff\xff\xff\xff\xff\xff\xff\xff\xff\xff\xff\xff\xff\xff";
 
-// The table, for whoever lends it.
-pub fn table() -> [u8; 256]
-    ensures { result ≡ weights }
+fn table() -> &'static [u8; 256]
+    ensures { result.now ≡ weights }
 {
-    WEIGHTS
-}
-
-fn as_usize(b: u8) -> usize
-    ensures { (result ≡ b) × (result < 256) }
-{
-    b as usize
+    &WEIGHTS
 }
 
 // What s weighs.
-fn weigh(table: &[u8; 256], s: &[u8]) -> usize
-    requires { (table.now ≡ weights) × (length s.now < 32) }
+fn weigh(s: &[u8]) -> usize
+    requires { length s.now < 32 }
     ensures { result ≡ total weight s.now }
 {
+    let table = table();
     let mut sum = 0;
-    let mut i = 0;
-    while i < s.len() {
-        let b = as_usize(s[i]);
-        sum += as_usize(table[b]);
-        i += 1;
+    for b in s {
+        sum += usize::from(table[usize::from(*b)]);
     }
     sum
 }
 
-// Whether s is short and weighs less than the limit. The table is lent, so that a loop holds it once.
-pub fn is_light(table: &[u8; 256], s: &[u8], limit: usize) -> bool
-    requires { table.now ≡ weights }
+// Whether s is short and weighs less than the limit.
+#[tactic(auto, unfolding(crate::specs::Weights::is_light))]
+pub fn is_light(s: &[u8], limit: usize) -> bool
     ensures { result ≡ is_light limit s.now }
 {
-    if 32 <= s.len() {
-        return false;
-    }
-    weigh(table, s) < limit
+    s.len() < 32 && weigh(s) < limit
 }

@@ -1,9 +1,7 @@
 -- An entry written part by part is the entry pasted, and an entry pasted before moved bytes is the used bytes spliced.
 -- Assumes nothing.
-use Rattle.std.specs.Prelude.{if◌then◌else◌}
 use Prim.Native.Nat.{ℕ, ◌+◌, ◌-◌, ◌≤◌}
 use mathlib.Core.Path.{◌≡◌, refl, sym, ap, ◌∙◌}
-use mathlib.Core.Bool.{Bool, true, false}
 use mathlib.Core.List.{List, ◌∷◌, ◌++◌, append_assoc}
 use native.Mathlib.Omega.{arith}
 use lib.ListN.{length, take, drop, length-append, length-take, length-drop}
@@ -13,10 +11,6 @@ use Rattle.format.specs.Layout.{fixed, entry_bytes}
 use Rattle.format.proofs.Lists.{texts_append, total_append}
 use Rattle.octets.proofs.Paste.{pasted_pasted, pasted_front, drop_take}
 use Rattle.store_splice.specs.Spliced.{entry_size, spliced, Parted}
-
-pub fixed_length : (n v k t : ℕ) → length (fixed n v k t) ≡ 16
-unfolding fixed
-fixed_length n v k t = refl
 
 pub entry_length : (n v : Bytes) (k : ℕ) (t : Bytes) → length (entry_bytes n v k t) ≡ entry_size n v t
 unfolding entry_bytes fixed
@@ -59,12 +53,6 @@ splice_pasted at old used size e d same a b c =
     ∙ sym (append_assoc (take at d) (e ++ t) (drop (at + length (e ++ t)) d))
     ∙ ap (λ (x : Bytes). x ++ drop (at + length (e ++ t)) d) (sym whole)
     ∙ ap (λ (k : ℕ). front ++ drop k d) (sym long)
-
-pub if_true : {A : Type 0} (t : Bool) (x y : A) → t ≡ true → x ≡ (if t then x else y)
-if_true t x y h = rw h refl
-
-pub if_false : {A : Type 0} (t : Bool) (x y : A) → t ≡ false → y ≡ (if t then x else y)
-if_false t x y h = rw h refl
 
 -- the used bytes in parts, of which one is replaced
 pub spliced_parts : (used : ℕ) (store a g b e : Bytes) → take used store ≡ a ++ (g ++ b) → spliced (length a) (length g) used e store ≡ a ++ (e ++ b)

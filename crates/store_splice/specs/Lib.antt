@@ -1,2 +1,3 @@
+pub mod NewEntries
 pub mod Notations
 pub mod Spliced

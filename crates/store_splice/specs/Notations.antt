@@ -1,5 +1,5 @@
 -- The value that a lent text stands for, by its notation. Assumes nothing.
-use Rattle.std.specs.Prelude.{ℕ, ◌≡◌, Bool, true, length}
+use Rattle.std.specs.Prelude.{ℕ, ◌≡◌, Bool, true, length, is_some}
 use Rattle.std.proofs.Math.Option.{Option, some}
 use Rattle.format.specs.Bytes.{Bytes}
 use Rattle.format.specs.Escaping.{unescape_by}
@@ -14,7 +14,7 @@ read_as (Escaped r) s = unescape_by r s
 
 -- whether a text reads
 abbrev pub reads : Notation → Bytes → Bool
-reads n s = (measured (read_as n s)).ok
+reads n s = is_some (measured (read_as n s))
 
 -- the value of a text that reads
 abbrev pub value_read : Notation → Bytes → Bytes

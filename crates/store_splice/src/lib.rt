@@ -5,13 +5,14 @@
 
 ghost use Rattle.std.specs.Prelude.{◌≡◌, true, ◌++◌, ◌+◌, ◌-◌, ◌≤◌, ◌<◌, ltb, length, take, drop, if◌then◌else◌};
 ghost use Rattle.format.specs.Bytes.{pasted, over};
-ghost use Rattle.format.specs.Refusals.{numbers};
 ghost use Rattle.format.specs.Calls.{room};
-ghost use Rattle.format.specs.Layout.{fixed, entry_bytes};
-ghost use Rattle.store_splice.specs.Notations.{reads, value_read, Sized};
-ghost use Rattle.store_splice.specs.Spliced.{entry_size, spliced};
+ghost use Rattle.format.specs.Layout.{fixed};
+ghost use Rattle.format.specs.Told.{checked};
+ghost use Rattle.store_splice.specs.Notations.{reads, value_read};
+ghost use Rattle.store_splice.specs.NewEntries.{Fits, IsPlain, size_of, bytes_of};
+ghost use Rattle.store_splice.specs.Spliced.{spliced};
 
-use format::{Manner, Numbers};
+use format::{Manner, Refusal};
 use octets::copy_at;
 use octets::shifting::shift;
 use unescape::unescape_header_value;
@@ -24,7 +25,44 @@ pub enum Notation {
     Escaped(Manner),
 }
 
+// An entry to be written (specs/NewEntries.antt): a text in a notation stands for its value of size bytes, and tail is the bytes
+// of its parameters.
+#[derive(Clone, Copy)]
+pub struct NewEntry<'a> {
+    pub name: &'a [u8],
+    pub text: &'a [u8],
+    pub notation: Notation,
+    pub size: usize,
+    pub params: usize,
+    pub tail: &'a [u8],
+}
+
+impl<'a> NewEntry<'a> {
+    // An entry whose value is given as it is, without parameters.
+    pub fn plain(name: &'a [u8], value: &'a [u8]) -> NewEntry<'a>
+        ensures { IsPlain name.now value.now result }
+    {
+        NewEntry {
+            name,
+            text: value,
+            notation: Notation::Plain,
+            size: value.len(),
+            params: 0,
+            tail: b"",
+        }
+    }
+
+    // The bytes that it takes in a store.
+    pub fn stored_len(self) -> usize
+        requires { Fits self }
+        ensures { result ≡ size_of self.entry }
+    {
+        16 + (self.name.len() + (self.size + self.tail.len()))
+    }
+}
+
 // The 16 bytes of numbers of an entry.
+#[tactic(auto, unfolding(format::specs::Layout::fixed))]
 fn put_fixed(out: &mut [u8], at: usize, name: usize, value: usize, params: usize, tail: usize)
     requires room { at + 16 ≤ length out.old }
     requires bytes { (name < 256) × (value < 65536) × (params < 256) × (tail < 65536) }
@@ -32,11 +70,9 @@ fn put_fixed(out: &mut [u8], at: usize, name: usize, value: usize, params: usize
 {
     let mut numbers = [0u8; 16];
     numbers[0] = name as u8;
-    numbers[1] = (value % 256) as u8;
-    numbers[2] = (value / 256) as u8;
+    numbers[1..3].copy_from_slice(&(value as u16).to_le_bytes());
     numbers[3] = params as u8;
-    numbers[4] = (tail % 256) as u8;
-    numbers[5] = (tail / 256) as u8;
+    numbers[4..6].copy_from_slice(&(tail as u16).to_le_bytes());
     copy_at(out, at, &numbers);
 }
 
@@ -47,31 +83,28 @@ fn put_value(out: &mut [u8], at: usize, text: &[u8], notation: Notation)
     ensures { out.new ≡ pasted at (value_read notation text.now) out.old }
 {
     match notation {
-        Notation::Plain => {
-            copy_at(out, at, text);
-        }
+        Notation::Plain => copy_at(out, at, text),
         Notation::Escaped(manner) => {
             unescape_header_value(manner, out, at, text);
         }
     }
 }
 
-// An entry at a place: its value is size bytes, tail is the bytes of its parameters.
-pub fn put_entry(
-    out: &mut [u8],
-    at: usize,
-    name: &[u8],
-    text: &[u8],
-    notation: Notation,
-    size: usize,
-    params: usize,
-    tail: &[u8],
-)
-    requires value { Sized notation text.now size }
-    requires room { at + entry_size name.now (value_read notation text.now) tail.now ≤ length out.old }
-    requires bytes { (length name.now < 256) × (size < 65536) × (params < 256) × (length tail.now < 65536) }
-    ensures { out.new ≡ pasted at (entry_bytes name.now (value_read notation text.now) params tail.now) out.old }
+// An entry at a place.
+#[tactic(auto, using(crate::proofs::Splicing::entry_pasted))]
+pub fn put_entry(out: &mut [u8], at: usize, new: NewEntry<'_>)
+    requires fits { Fits new }
+    requires room { at + size_of new ≤ length out.old }
+    ensures { out.new ≡ pasted at (bytes_of new.entry) out.old }
 {
+    let NewEntry {
+        name,
+        text,
+        notation,
+        size,
+        params,
+        tail,
+    } = new;
     put_fixed(out, at, name.len(), size, params, tail.len());
     let name_at = at + 16;
     copy_at(out, name_at, name);
@@ -81,61 +114,37 @@ pub fn put_entry(
 }
 
 // An entry in the place of the old bytes at a place; used bytes of the store were in use.
-fn splice(
-    store: &mut [u8],
-    at: usize,
-    old: usize,
-    used: usize,
-    name: &[u8],
-    text: &[u8],
-    notation: Notation,
-    size: usize,
-    params: usize,
-    tail: &[u8],
-)
+#[tactic(auto, using(crate::proofs::Splicing::splice_pasted, crate::proofs::Splicing::entry_length))]
+fn splice(store: &mut [u8], at: usize, old: usize, used: usize, new: NewEntry<'_>)
     requires within { (at + old ≤ used) × (used ≤ length store.old) }
-    requires value { Sized notation text.now size }
-    requires room { used - old + entry_size name.now (value_read notation text.now) tail.now ≤ length store.old }
-    requires bytes { (length name.now < 256) × (size < 65536) × (params < 256) × (length tail.now < 65536) }
-    ensures { store.new ≡ over (spliced at old used (entry_bytes name.now (value_read notation text.now) params tail.now) store.old) store.old }
+    requires fits { Fits new }
+    requires room { used - old + size_of new ≤ length store.old }
+    ensures { store.new ≡ over (spliced at old used (bytes_of new.entry) store.old) store.old }
 {
-    let gap = 16 + (name.len() + (size + tail.len()));
+    let gap = new.stored_len();
     let from = at + old;
     shift(store, from, at + gap, used - from);
-    put_entry(store, at, name, text, notation, size, params, tail);
+    put_entry(store, at, new);
 }
 
 // The same where there is room for it; else 25 carrying the need, and no byte changes.
+#[tactic(auto, unfolding(format::specs::Calls::room, format::specs::Told::checked, format::specs::Told::meant, format::specs::Refusals::refuse_if))]
 pub fn replace(
     store: &mut [u8],
     at: usize,
     old: usize,
     used: usize,
-    name: &[u8],
-    text: &[u8],
-    notation: Notation,
-    size: usize,
-    params: usize,
-    tail: &[u8],
-) -> Numbers
+    new: NewEntry<'_>,
+) -> Result<(), Refusal>
     requires within { (at + old ≤ used) × (used ≤ length store.old) }
-    requires value { Sized notation text.now size }
-    requires bytes { (length name.now < 256) × (size < 65536) × (params < 256) × (length tail.now < 65536) }
-    ensures answered { result ≡ numbers (room (length store.old) (used - old + entry_size name.now (value_read notation text.now) tail.now)) }
-    ensures left { store.new ≡ (if ltb (length store.old) (used - old + entry_size name.now (value_read notation text.now) tail.now) then store.old else over (spliced at old used (entry_bytes name.now (value_read notation text.now) params tail.now) store.old) store.old) }
+    requires fits { Fits new }
+    ensures answered { checked result ≡ room (length store.old) (used - old + size_of new.entry) }
+    ensures left { store.new ≡ (if ltb (length store.old) (used - old + size_of new.entry) then store.old else over (spliced at old used (bytes_of new.entry) store.old) store.old) }
 {
-    let need = used - old + (16 + (name.len() + (size + tail.len())));
+    let need = used - old + new.stored_len();
     if store.len() < need {
-        return Numbers {
-            number: 25,
-            carried: need as u64,
-        };
+        return Err(Refusal::NoRoom(need));
     }
-    splice(
-        store, at, old, used, name, text, notation, size, params, tail,
-    );
-    Numbers {
-        number: 0,
-        carried: 0,
-    }
+    splice(store, at, old, used, new);
+    Ok(())
 }

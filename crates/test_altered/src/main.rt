@@ -4,16 +4,15 @@
 
 #![tactic(auto)]
 
-use format::{CpimHeader, CpimMessage};
-use lookup::content_headers::content_value;
+use format::{CpimHeader, CpimMessage, Refusal};
+use lookup::content_headers::content;
 use lookup::counts::{count_contents, count_headers};
 use lookup::get_header_value;
-use octets::compare::same;
 use std::io;
 
 // Calls made; accepted; refused by 25 carrying 0; answered otherwise; and those after which something else is held, or
 // something has changed.
-#[derive(Clone, Copy)]
+#[derive(Clone, Copy, Default)]
 struct Tally {
     made: u64,
     accepted: u64,
@@ -27,49 +26,31 @@ fn more(n: u64) -> u64 {
 }
 
 // One more call, by its answer and whether what it left is right.
-fn counted(t: Tally, number: u64, carried: u64, right: bool) -> Tally {
+fn counted<A: Copy>(t: Tally, answer: Result<A, Refusal>, right: bool) -> Tally {
     let mut n = t;
     n.made = more(t.made);
     if !right {
         n.wrong = more(t.wrong);
     }
-    if number == 0 {
-        n.accepted = more(t.accepted);
-        return n;
+    match answer {
+        Ok(_) => n.accepted = more(t.accepted),
+        Err(Refusal::NoRoom(0)) => n.nothing = more(t.nothing),
+        Err(_) => n.other = more(t.other),
     }
-    if number != 25 {
-        n.other = more(t.other);
-        return n;
-    }
-    if carried != 0 {
-        n.other = more(t.other);
-        return n;
-    }
-    n.nothing = more(t.nothing);
     n
 }
 
 // Whether the n-th value of a name is this one, and the last.
 fn is_last(m: CpimMessage, head: &[u8], name: &[u8], n: usize, value: &[u8]) -> bool {
-    let mut found = false;
-    let last = get_header_value(m, head, name, n, &mut found);
-    if !found {
-        return false;
-    }
-    if !same(last, value) {
-        return false;
-    }
-    let mut another = false;
-    get_header_value(m, head, name, n.wrapping_add(1), &mut another);
-    !another
+    let last = get_header_value(m, head, name, n);
+    let another = get_header_value(m, head, name, n.wrapping_add(1));
+    last.is_some_and(|last| last == value) && another.is_none()
 }
 
 // How many values a name has, up to 60.
 fn values_of(m: CpimMessage, head: &[u8], name: &[u8]) -> usize {
     for n in 0..60 {
-        let mut found = false;
-        get_header_value(m, head, name, n, &mut found);
-        if !found {
+        if get_header_value(m, head, name, n).is_none() {
             return n;
         }
     }
@@ -81,39 +62,41 @@ fn try_add(t: Tally, m: CpimMessage, head: [u8; 512]) -> Tally {
     let mut work = head;
     let before = count_headers(m, &work);
     let of_name = values_of(m, &work, b"To");
-    let a = message::add_header(m, &mut work, b"To", b"x");
-    if a.number != 0 {
-        return counted(t, a.number, a.carried, same(&work, &head));
-    }
-    let one_more = count_headers(a.message, &work) == before.wrapping_add(1);
-    let last = is_last(a.message, &work, b"To", of_name, b"x");
-    counted(t, a.number, a.carried, one_more & last)
+    let answer = message::add_header(m, &mut work, b"To", b"x");
+    let right = match answer {
+        Ok(a) => {
+            count_headers(a, &work) == before.wrapping_add(1)
+                && is_last(a, &work, b"To", of_name, b"x")
+        }
+        Err(_) => work == head,
+    };
+    counted(t, answer, right)
 }
 
 // `set_header`: its name has this one value.
 fn try_set(t: Tally, m: CpimMessage, head: [u8; 512]) -> Tally {
     let mut work = head;
-    let a = message::set_header(m, &mut work, b"From", b"x");
-    if a.number != 0 {
-        return counted(t, a.number, a.carried, same(&work, &head));
-    }
-    let last = is_last(a.message, &work, b"From", 0, b"x");
-    counted(t, a.number, a.carried, last)
+    let answer = message::set_header(m, &mut work, b"From", b"x");
+    let right = match answer {
+        Ok(a) => is_last(a, &work, b"From", 0, b"x"),
+        Err(_) => work == head,
+    };
+    counted(t, answer, right)
 }
 
 // `add_content_header` of the first name of all: the first one has this value, and there is one more.
 fn try_content(t: Tally, m: CpimMessage, head: [u8; 512]) -> Tally {
     let mut work = head;
     let before = count_contents(m, &work);
-    let a = message::add_content_header(m, &mut work, b" ", b"x");
-    if a.number != 0 {
-        return counted(t, a.number, a.carried, same(&work, &head));
-    }
-    let one_more = count_contents(a.message, &work) == before.wrapping_add(1);
-    let mut found = false;
-    let value = content_value(a.message, &work, 0, &mut found);
-    let first = same(value, b"x");
-    counted(t, a.number, a.carried, one_more & first)
+    let answer = message::add_content_header(m, &mut work, b" ", b"x");
+    let right = match answer {
+        Ok(a) => {
+            count_contents(a, &work) == before.wrapping_add(1)
+                && content(a, &work, 0).is_some_and(|first| first.value == b"x".as_slice())
+        }
+        Err(_) => work == head,
+    };
+    counted(t, answer, right)
 }
 
 fn try_calls(t: Tally, m: CpimMessage, head: [u8; 512]) -> Tally {
@@ -122,77 +105,70 @@ fn try_calls(t: Tally, m: CpimMessage, head: [u8; 512]) -> Tally {
     try_content(two, m, head)
 }
 
-// The value tried in the i-th place for a byte that was old: its neighbours, then the ends of every class of bytes.
-fn another(old: u8, i: usize) -> u8 {
-    let bytes = [0u8, 1, 9, 16, 32, 58, 59, 65, 97, 127, 128, 194, 224, 255];
-    if i == 14 {
-        return old.wrapping_add(1);
-    }
-    if 14 < i {
-        return old.wrapping_sub(1);
-    }
-    bytes[i]
+// The values tried for a byte: the ends of every class of bytes, then its neighbours.
+fn others(old: u8) -> [u8; 16] {
+    [
+        0,
+        1,
+        9,
+        16,
+        32,
+        58,
+        59,
+        65,
+        97,
+        127,
+        128,
+        194,
+        224,
+        255,
+        old.wrapping_add(1),
+        old.wrapping_sub(1),
+    ]
 }
 
-// Every value at one place of the head store.
-fn try_place(t: Tally, m: CpimMessage, head: [u8; 512], at: usize) -> Tally {
-    if 512 <= at {
-        return t;
-    }
+// Every such value at every place of a store.
+fn try_places<F: Fn(Tally, usize, u8) -> Tally>(t: Tally, store: &[u8], tried: F) -> Tally
+    requires { F.IsAlwaysCallable tried }
+{
     let mut sum = t;
-    for i in 0..16 {
-        let mut work = head;
-        work[at] = another(head[at], i);
-        sum = try_calls(sum, m, work);
+    for (at, old) in store.iter().enumerate() {
+        for other in others(*old) {
+            sum = tried(sum, at, other);
+        }
     }
     sum
 }
 
-fn try_places(t: Tally, m: CpimMessage, head: [u8; 512]) -> Tally {
-    let mut sum = t;
-    for at in 0..512 {
-        sum = try_place(sum, m, head, at);
+// The store with another byte at a place.
+fn with_byte<const N: usize>(store: [u8; N], at: usize, byte: u8) -> [u8; N] {
+    let mut work = store;
+    if let Some(old) = work.get_mut(at) {
+        *old = byte;
     }
-    sum
+    work
 }
 
 // The record with another number in the i-th place.
 fn with_number(m: CpimMessage, i: usize, n: usize) -> CpimMessage {
-    let mut k = m;
-    if i == 0 {
-        k.typelen = n;
+    match i {
+        0 => CpimMessage { typelen: n, ..m },
+        1 => CpimMessage { headers: n, ..m },
+        2 => CpimMessage { headerlen: n, ..m },
+        3 => CpimMessage { contents: n, ..m },
+        4 => CpimMessage { contentlen: n, ..m },
+        5 => CpimMessage { bodylen: n, ..m },
+        _ => m,
     }
-    if i == 1 {
-        k.headers = n;
-    }
-    if i == 2 {
-        k.headerlen = n;
-    }
-    if i == 3 {
-        k.contents = n;
-    }
-    if i == 4 {
-        k.contentlen = n;
-    }
-    if i == 5 {
-        k.bodylen = n;
-    }
-    k
 }
 
-// Every number up to 300, and the largest ones, in the i-th place of the record.
-fn try_number(t: Tally, m: CpimMessage, head: [u8; 512], i: usize) -> Tally {
-    let mut sum = t;
-    for n in 0..302usize {
-        sum = try_calls(sum, with_number(m, i, n.wrapping_sub(2)), head);
-    }
-    sum
-}
-
+// Every number up to 300, and the largest ones, in each place of the record.
 fn try_numbers(t: Tally, m: CpimMessage, head: [u8; 512]) -> Tally {
     let mut sum = t;
     for i in 0..6 {
-        sum = try_number(sum, m, head, i);
+        for n in 0..302usize {
+            sum = try_calls(sum, with_number(m, i, n.wrapping_sub(2)), head);
+        }
     }
     sum
 }
@@ -200,35 +176,14 @@ fn try_numbers(t: Tally, m: CpimMessage, head: [u8; 512]) -> Tally {
 // `with_param` on a header alone, of the first name of all: the first parameter has this value.
 fn try_param(t: Tally, h: CpimHeader, store: [u8; 128]) -> Tally {
     let mut work = store;
-    let a = header::with_param(h, &mut work, b" ", b"x");
-    if a.number != 0 {
-        return counted(t, a.number, a.carried, same(&work, &store));
-    }
-    let mut found = false;
-    let value = lookup::alone::param_value(a.header, &work, 0, &mut found);
-    counted(t, a.number, a.carried, same(value, b"x"))
-}
-
-// Every value at one place of the header store.
-fn try_header_place(t: Tally, h: CpimHeader, store: [u8; 128], at: usize) -> Tally {
-    if 128 <= at {
-        return t;
-    }
-    let mut sum = t;
-    for i in 0..16 {
-        let mut work = store;
-        work[at] = another(store[at], i);
-        sum = try_param(sum, h, work);
-    }
-    sum
-}
-
-fn try_header(t: Tally, h: CpimHeader, store: [u8; 128]) -> Tally {
-    let mut sum = t;
-    for at in 0..128 {
-        sum = try_header_place(sum, h, store, at);
-    }
-    sum
+    let answer = header::with_param(h, &mut work, b" ", b"x");
+    let right = match answer {
+        Ok(a) => {
+            lookup::alone::param(a, &work, 0).is_some_and(|first| first.value == b"x".as_slice())
+        }
+        Err(_) => work == store,
+    };
+    counted(t, answer, right)
 }
 
 fn print_tally(rt: &impl Print, t: Tally) -> io::Result<()> {
@@ -239,35 +194,43 @@ fn print_tally(rt: &impl Print, t: Tally) -> io::Result<()> {
     println!(rt; "wrong={}", t.wrong)
 }
 
-fn none() -> Tally {
-    Tally {
-        made: 0,
-        accepted: 0,
-        nothing: 0,
-        other: 0,
-        wrong: 0,
-    }
+// The small message.
+fn small_message(head: &mut [u8; 512]) -> Result<CpimMessage, Refusal> {
+    let mut body = [0u8; 4];
+    let mut m = message::new(b"text/plain", b"Hi", head, &mut body)?;
+    m = message::set_header(m, head, b"From", b"<im:a@b>")?;
+    m = message::add_header(m, head, b"To", b"c")?;
+    m = message::add_header(m, head, b"To", b"d")?;
+    m = message::builders::with_subject_lang(m, head, b"Hut", b"de")?;
+    message::add_content_header(m, head, b"ID", b"1")
 }
 
 fn message_tally() -> Tally {
     let mut head = [0u8; 512];
-    let mut body = [0u8; 4];
-    let made = message::new(b"text/plain", b"Hi", &mut head, &mut body);
-    let from = message::set_header(made.message, &mut head, b"From", b"<im:a@b>");
-    let to = message::add_header(from.message, &mut head, b"To", b"c");
-    let two = message::add_header(to.message, &mut head, b"To", b"d");
-    let lang = message::builders::with_subject_lang(two.message, &mut head, b"Hut", b"de");
-    let id = message::add_content_header(lang.message, &mut head, b"ID", b"1");
-    let m = id.message;
-    try_numbers(try_places(none(), m, head), m, head)
+    let Ok(m) = small_message(&mut head) else {
+        return Tally::default();
+    };
+    let places = try_places(Tally::default(), &head, |t, at, byte| {
+        try_calls(t, m, with_byte(head, at, byte))
+    });
+    try_numbers(places, m, head)
+}
+
+// A header with two parameters.
+fn small_header(store: &mut [u8; 128]) -> Result<CpimHeader, Refusal> {
+    let mut h = header::new(b"Hut", store)?;
+    h = header::with_param(h, store, b"lang", b"de")?;
+    header::with_param(h, store, b"x", b"")
 }
 
 fn header_tally() -> Tally {
     let mut store = [0u8; 128];
-    let made = header::new(b"Hut", &mut store);
-    let lang = header::with_param(made.header, &mut store, b"lang", b"de");
-    let two = header::with_param(lang.header, &mut store, b"x", b"");
-    try_header(none(), two.header, store)
+    let Ok(h) = small_header(&mut store) else {
+        return Tally::default();
+    };
+    try_places(Tally::default(), &store, |t, at, byte| {
+        try_param(t, h, with_byte(store, at, byte))
+    })
 }
 
 fn main(rt: HostRuntime) -> io::Result<()> {

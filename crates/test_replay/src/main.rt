@@ -13,99 +13,91 @@
 
 use calls_script::{argument_at, argument_end, number_at};
 use calls_write::begun::{new_and_run, read_and_run};
-use format::{Answer, CpimMessage};
+use format::{CpimMessage, Numbers, Refusal};
 use input::read_whole;
-use octets::compare::same;
 use read::parse_cpim;
-use std::io;
 use std::io::Read;
 use std::time::Clock;
+use std::{fmt, io};
 use write::to_string;
+
+// What differs in a record.
+#[derive(Clone, Copy)]
+enum Difference {
+    Number,
+    Carried,
+    Left,
+    Message,
+    Text,
+}
+
+impl fmt::Display for Difference {
+    fn fmt<W: fmt::Write>(&self, f: &mut fmt::Formatter<W>) -> fmt::Result {
+        f.write_str(match self {
+            Difference::Number => "the refusal's number",
+            Difference::Carried => "the carried number",
+            Difference::Left => "what a refusal leaves",
+            Difference::Message => "the message held",
+            Difference::Text => "its text",
+        })
+    }
+}
+
+// How many records of a kind were asked, and how many agree.
+#[derive(Clone, Copy, Default)]
+struct Tally {
+    asked: u64,
+    agreed: u64,
+}
 
 // The first n bytes, all of them where there are fewer.
 fn first<'a>(s: &'a [u8], n: usize) -> &'a [u8] {
-    if s.len() < n {
-        let all = s.len();
-        return &s[..all];
-    }
-    &s[..n]
+    &s[..n.min(s.len())]
 }
 
-// The part at a place of a record; nothing where it is cut off.
-fn part_at<'a>(item: &'a [u8], at: usize) -> &'a [u8] {
+// The place behind the part at a place of a record; None where it is cut off.
+fn part_end(item: &[u8], at: usize) -> Option<usize> {
     if item.len() < at {
-        return &item[..0];
+        return None;
     }
-    if argument_end(item, at) == 0 {
-        return &item[..0];
-    }
-    argument_at(item, at)
+    argument_end(item, at)
 }
 
-// The place behind it.
-fn behind(item: &[u8], at: usize) -> usize {
+// The part at a place; None where it is cut off.
+fn part_at<'a>(item: &'a [u8], at: usize) -> Option<&'a [u8]> {
     if item.len() < at {
-        return at;
+        return None;
     }
-    let end = argument_end(item, at);
-    if end == 0 {
-        return item.len();
-    }
-    end
+    argument_end(item, at)?;
+    Some(argument_at(item, at))
 }
 
-// The n-th part of a record.
+// The n-th part of a record; nothing where it is cut off.
 fn nth<'a>(item: &'a [u8], n: usize) -> &'a [u8] {
     let mut at = 1;
     for _ in 0..n {
-        at = behind(item, at);
+        at = part_end(item, at).unwrap_or(item.len());
     }
-    part_at(item, at)
+    part_at(item, at).unwrap_or(&item[..0])
 }
 
 // A number of four bytes.
 fn number(s: &[u8], at: usize) -> u64 {
-    if s.len() < 4 {
-        return 0;
-    }
-    if s.len() - 4 < at {
+    if s.len() < 4 || s.len() - 4 < at {
         return 0;
     }
     number_at(s, at) as u64
 }
 
-// The store begins with s.
-fn begins(store: &[u8], s: &[u8]) -> bool {
-    if store.len() < s.len() {
-        return false;
-    }
-    same(first(store, s.len()), s)
-}
-
 // From a place on the store has s.
 fn has_at(store: &[u8], at: usize, s: &[u8]) -> bool {
-    if store.len() < at {
-        return false;
-    }
-    begins(&store[at..], s)
-}
-
-// Every byte is the one given.
-fn all(s: &[u8], b: u8) -> bool {
-    for byte in s {
-        if *byte != b {
-            return false;
-        }
-    }
-    true
+    store.get(at..).is_some_and(|rest| rest.starts_with(s))
 }
 
 // A refused reading leaves zeros, a refused `new` all as it was.
 fn untouched(kind: u8, head: &[u8], body: &[u8]) -> bool {
-    if kind == 4 {
-        return all(head, 7) && all(body, 7);
-    }
-    all(head, 0) && all(body, 0)
+    let old = if kind == 4 { 7 } else { 0 };
+    head.iter().all(|b| *b == old) && body.iter().all(|b| *b == old)
 }
 
 // The numbers of the record and the bytes of the stores are those of the message with these parts.
@@ -117,38 +109,21 @@ fn held(
     entries: &[u8],
     body: &[u8],
 ) -> bool {
-    if m.typelen != kind.len() {
-        return false;
-    }
-    if entries.len() < m.headerlen {
-        return false;
-    }
-    if entries.len() - m.headerlen != m.contentlen {
-        return false;
-    }
-    if m.bodylen != body.len() {
-        return false;
-    }
-    if !begins(head, kind) {
-        return false;
-    }
-    if !has_at(head, 256, entries) {
-        return false;
-    }
-    begins(store, body)
+    m.typelen == kind.len()
+        && m.headerlen <= entries.len()
+        && m.contentlen == entries.len() - m.headerlen
+        && m.bodylen == body.len()
+        && head.starts_with(kind)
+        && has_at(head, 256, entries)
+        && store.starts_with(body)
 }
 
 // `to_string` writes this text, and no byte behind it.
 fn writes(m: CpimMessage, head: &[u8], body: &[u8], text: &[u8]) -> bool {
     let mut out = [255u8; 16384];
-    let n = to_string(m, head, body, &mut out);
-    if n.number != 0 {
-        return false;
-    }
-    if !begins(&out, text) {
-        return false;
-    }
-    has_at(&out, text.len(), b"\xFF")
+    to_string(m, head, body, &mut out).is_ok()
+        && out.starts_with(text)
+        && has_at(&out, text.len(), b"\xFF")
 }
 
 fn begin(
@@ -158,35 +133,36 @@ fn begin(
     script: &[u8],
     head: &mut [u8],
     body: &mut [u8],
-) -> Answer {
-    if kind == 4 {
-        return new_and_run(first, second, script, head, body);
+) -> Result<CpimMessage, Refusal> {
+    match kind {
+        4 => new_and_run(first, second, script, head, body),
+        3 => read_and_run(first, script, head, body),
+        _ => parse_cpim(first, head, body),
     }
-    if kind == 3 {
-        return read_and_run(first, script, head, body);
-    }
-    parse_cpim(first, head, body)
 }
 
 // What differs in the message held, or in its text.
-fn message_differs(kind: u8, m: CpimMessage, head: &[u8], body: &[u8], item: &[u8]) -> u64 {
+fn message_differs(
+    kind: u8,
+    m: CpimMessage,
+    head: &[u8],
+    body: &[u8],
+    item: &[u8],
+) -> Option<Difference> {
     if !held(m, head, body, nth(item, 4), nth(item, 5), nth(item, 6)) {
-        return 4;
+        return Some(Difference::Message);
     }
-    if kind == 1 {
-        return 0;
+    if kind != 1 && !writes(m, head, body, nth(item, 7)) {
+        return Some(Difference::Text);
     }
-    if writes(m, head, body, nth(item, 7)) {
-        return 0;
-    }
-    5
+    None
 }
 
-// What differs in a record: 0 nothing, 1 the refusal's number, 2 the carried one, 3 what a refusal leaves, 4 the message held, 5 its text.
-fn differs(kind: u8, item: &[u8]) -> u64 {
+// What differs in a record, if anything.
+fn differs(kind: u8, item: &[u8]) -> Option<Difference> {
     let mut head = [7u8; 16384];
     let mut body = [7u8; 4096];
-    let a = begin(
+    let begun = begin(
         kind,
         nth(item, 0),
         nth(item, 1),
@@ -194,20 +170,25 @@ fn differs(kind: u8, item: &[u8]) -> u64 {
         &mut head,
         &mut body,
     );
+    let told = match begun {
+        Ok(_) => Numbers {
+            number: 0,
+            carried: 0,
+        },
+        Err(refusal) => Numbers::from(refusal),
+    };
     let numbers = nth(item, 3);
-    if a.number != number(numbers, 0) {
-        return 1;
+    if told.number != number(numbers, 0) {
+        return Some(Difference::Number);
     }
-    if a.carried != number(numbers, 4) {
-        return 2;
+    if told.carried != number(numbers, 4) {
+        return Some(Difference::Carried);
     }
-    if a.number != 0 {
-        if untouched(kind, &head, &body) {
-            return 0;
-        }
-        return 3;
+    match begun {
+        Ok(m) => message_differs(kind, m, &head, &body, item),
+        Err(_) if untouched(kind, &head, &body) => None,
+        Err(_) => Some(Difference::Left),
     }
-    message_differs(kind, a.message, &head, &body, item)
 }
 
 // The next record of the list; how long it is, 0 at the end.
@@ -223,32 +204,22 @@ fn next(clock: &impl Clock, list: &mut impl Read, item: &mut [u8]) -> usize {
     read_whole(clock, list, &mut item[..n]).count
 }
 
-fn count(counts: &mut [u64; 5], kind: u8) {
-    let i = kind as usize;
-    if i < 5 {
-        counts[i] = counts[i].wrapping_add(1);
+// A record asked, and whether it agreed.
+fn count(tallies: &mut [Tally; 5], kind: u8, agrees: bool) {
+    if let Some(tally) = tallies.get_mut(kind as usize) {
+        tally.asked = tally.asked.wrapping_add(1);
+        if agrees {
+            tally.agreed = tally.agreed.wrapping_add(1);
+        }
     }
 }
 
-// Where the first difference is.
-fn say(rt: &impl Print, place: u64, kind: u8, what: u64) -> io::Result<()> {
-    let part = match what {
-        1 => "the refusal's number",
-        2 => "the carried number",
-        3 => "what a refusal leaves",
-        4 => "the message held",
-        _ => "its text",
-    };
-    println!(rt; "differs first: answer {place} of the list, of kind {kind}, in {part}")
-}
-
-// One record; false at the end of the list.
+// One record; false at the end of the list. The first difference is told.
 fn turn(
     rt: &(impl Print + Clock),
     list: &mut impl Read,
     place: u64,
-    asked: &mut [u64; 5],
-    agreed: &mut [u64; 5],
+    tallies: &mut [Tally; 5],
     told: &mut bool,
 ) -> io::Result<bool> {
     let mut item = [0u8; 16384];
@@ -257,34 +228,30 @@ fn turn(
         return Ok(false);
     }
     let kind = item[0];
-    let what = differs(kind, first(&item, n));
-    count(asked, kind);
-    if what == 0 {
-        count(agreed, kind);
-        return Ok(true);
+    let difference = differs(kind, first(&item, n));
+    count(tallies, kind, difference.is_none());
+    if let Some(part) = difference {
+        if !*told {
+            *told = true;
+            println!(rt; "differs first: answer {place} of the list, of kind {kind}, in {part}")?;
+        }
     }
-    if *told {
-        return Ok(true);
-    }
-    *told = true;
-    say(rt, place, kind, what)?;
     Ok(true)
 }
 
-fn print_kind(rt: &impl Print, name: &str, agreed: u64, asked: u64) -> io::Result<()> {
-    println!(rt; "{name}: {agreed} of {asked} agree")
+fn print_kind(rt: &impl Print, name: &str, tally: Tally) -> io::Result<()> {
+    println!(rt; "{name}: {} of {} agree", tally.agreed, tally.asked)
 }
 
 // Every record; a list has an end, and no more than a million.
 fn replay_all(
     rt: &(impl Print + Clock),
     list: &mut impl Read,
-    asked: &mut [u64; 5],
-    agreed: &mut [u64; 5],
+    tallies: &mut [Tally; 5],
 ) -> io::Result<()> {
     let mut told = false;
     for place in 1..1000000 {
-        if !turn(rt, list, place, asked, agreed, &mut told)? {
+        if !turn(rt, list, place, tallies, &mut told)? {
             return Ok(());
         }
     }
@@ -292,11 +259,10 @@ fn replay_all(
 }
 
 fn main(rt: HostRuntime) -> io::Result<()> {
-    let mut asked = [0u64; 5];
-    let mut agreed = [0u64; 5];
-    replay_all(&rt, &mut rt.stdin(), &mut asked, &mut agreed)?;
-    print_kind(&rt, "texts read", agreed[1], asked[1])?;
-    print_kind(&rt, "texts read and written", agreed[2], asked[2])?;
-    print_kind(&rt, "lists of calls begun by a text", agreed[3], asked[3])?;
-    print_kind(&rt, "lists of calls begun by new", agreed[4], asked[4])
+    let mut tallies = [Tally::default(); 5];
+    replay_all(&rt, &mut rt.stdin(), &mut tallies)?;
+    print_kind(&rt, "texts read", tallies[1])?;
+    print_kind(&rt, "texts read and written", tallies[2])?;
+    print_kind(&rt, "lists of calls begun by a text", tallies[3])?;
+    print_kind(&rt, "lists of calls begun by new", tallies[4])
 }

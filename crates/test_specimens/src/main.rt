@@ -9,7 +9,7 @@ mod second_reading;
 use crate::second_reading::{
     escapes_read, messages_back, params_checked, params_read, spaces_misplaced,
 };
-use format::CpimMessage;
+use format::{CpimMessage, Numbers, Refusal};
 use octets::copy_at;
 use read::parse_cpim;
 use read_split::{body_part, read_body};
@@ -19,10 +19,7 @@ use write::to_string;
 
 // The bytes of s at a place of a text, where there is room for them; the place behind them.
 pub fn add(text: &mut [u8], at: usize, s: &[u8]) -> usize {
-    if text.len() < at {
-        return at;
-    }
-    if text.len() - at < s.len() {
+    if text.len() < at || text.len() - at < s.len() {
         return at;
     }
     copy_at(text, at, s);
@@ -40,14 +37,26 @@ fn add_times(text: &mut [u8], at: usize, s: &[u8], n: usize) -> usize {
 
 // The first n bytes, all of them where there are fewer.
 pub fn first<'a>(s: &'a [u8], n: usize) -> &'a [u8] {
-    if s.len() < n {
-        let all = s.len();
-        return &s[..all];
-    }
-    &s[..n]
+    &s[..n.min(s.len())]
 }
 
-fn print_numbers(rt: &impl Print, name: &[u8], number: u64, carried: u64) -> io::Result<()> {
+// The two numbers of an answer: 0 and 0 where the call was accepted.
+pub fn numbers<A: Copy>(answer: Result<A, Refusal>) -> Numbers {
+    match answer {
+        Ok(_) => Numbers {
+            number: 0,
+            carried: 0,
+        },
+        Err(refusal) => Numbers::from(refusal),
+    }
+}
+
+fn print_answer<A: Copy>(
+    rt: &impl Print,
+    name: &[u8],
+    answer: Result<A, Refusal>,
+) -> io::Result<()> {
+    let Numbers { number, carried } = numbers(answer);
     rt.write_all(name)?;
     println!(rt; " {number} {carried}")
 }
@@ -55,11 +64,11 @@ fn print_numbers(rt: &impl Print, name: &[u8], number: u64, carried: u64) -> io:
 // The text of what is held.
 fn print_text(rt: &impl Print, m: CpimMessage, head: &[u8], body: &[u8]) -> io::Result<()> {
     let mut out = [0u8; 8192];
-    let n = to_string(m, head, body, &mut out);
-    if n.number != 0 {
-        return print_numbers(rt, b"to_string", n.number, n.carried);
-    }
-    rt.write_all(first(&out, n.length))?;
+    let written = to_string(m, head, body, &mut out);
+    let Ok(n) = written else {
+        return print_answer(rt, b"to_string", written);
+    };
+    rt.write_all(first(&out, n))?;
     rt.write_all(b"\n")
 }
 
@@ -67,12 +76,12 @@ fn print_text(rt: &impl Print, m: CpimMessage, head: &[u8], body: &[u8]) -> io::
 fn read(rt: &impl Print, name: &[u8], text: &[u8]) -> io::Result<()> {
     let mut head = [0u8; 16384];
     let mut body = [0u8; 64];
-    let a = parse_cpim(text, &mut head, &mut body);
-    print_numbers(rt, name, a.number, a.carried)?;
-    if a.number == 0 {
-        print_text(rt, a.message, &head, &body)?;
+    let answer = parse_cpim(text, &mut head, &mut body);
+    print_answer(rt, name, answer)?;
+    match answer {
+        Ok(m) => print_text(rt, m, &head, &body),
+        Err(_) => Ok(()),
     }
-    Ok(())
 }
 
 // A text with these header lines and content lines, and the body `Hi`.
@@ -102,8 +111,7 @@ fn limit(
     at = add(&mut text, at, behind);
     let mut head = [0u8; 16384];
     let mut body = [0u8; 64];
-    let a = parse_cpim(first(&text, at), &mut head, &mut body);
-    print_numbers(rt, name, a.number, a.carried)
+    print_answer(rt, name, parse_cpim(first(&text, at), &mut head, &mut body))
 }
 
 // One below the limit, at it, and one above.
@@ -115,10 +123,7 @@ fn around(
     n: usize,
     behind: &[u8],
 ) -> io::Result<()> {
-    if n == 0 {
-        return Ok(());
-    }
-    if 2000 < n {
+    if n == 0 || 2000 < n {
         return Ok(());
     }
     limit(rt, name, before, s, n - 1, behind)?;
@@ -224,28 +229,25 @@ fn counts(rt: &impl Print) -> io::Result<()> {
 fn stores(rt: &impl Print, text: &[u8]) -> io::Result<()> {
     let mut body = [0u8; 2];
     let mut short = [0u8; 255];
-    let one = parse_cpim(text, &mut short, &mut body);
-    print_numbers(rt, b"25", one.number, one.carried)?;
+    print_answer(rt, b"25", parse_cpim(text, &mut short, &mut body))?;
     let mut less = [0u8; 274];
-    let two = parse_cpim(text, &mut less, &mut body);
-    print_numbers(rt, b"a byte less", two.number, two.carried)
+    print_answer(rt, b"a byte less", parse_cpim(text, &mut less, &mut body))
 }
 
 fn outputs(rt: &impl Print, text: &[u8]) -> io::Result<()> {
     let mut head = [0u8; 275];
     let mut body = [0u8; 2];
     let read = parse_cpim(text, &mut head, &mut body);
-    print_numbers(rt, b"room for all", read.number, read.carried)?;
-    let mut none = [0u8; 0];
-    let written = to_string(read.message, &head, &body, &mut none);
-    print_numbers(rt, b"26", written.number, written.carried)
+    print_answer(rt, b"room for all", read)?;
+    let Ok(m) = read else {
+        return Ok(());
+    };
+    print_answer(rt, b"26", to_string(m, &head, &body, &mut []))
 }
 
 fn no_body_store(rt: &impl Print, text: &[u8]) -> io::Result<()> {
     let mut head = [0u8; 275];
-    let mut none = [0u8; 0];
-    let read = parse_cpim(text, &mut head, &mut none);
-    print_numbers(rt, b"no body store", read.number, read.carried)
+    print_answer(rt, b"no body store", parse_cpim(text, &mut head, &mut []))
 }
 
 // Whether a message comes back from its text.
@@ -267,31 +269,63 @@ fn print_whole(
 fn back(rt: &impl Print, name: &[u8], m: CpimMessage, head: &[u8], body: &[u8]) -> io::Result<()> {
     print_whole(rt, name, m, head, body)?;
     let mut out = [0u8; 8192];
-    let n = to_string(m, head, body, &mut out);
-    read(rt, name, first(&out, n.length))
+    let n = to_string(m, head, body, &mut out).unwrap_or(0);
+    read(rt, name, first(&out, n))
+}
+
+// A small message, and the same with a header.
+fn small(head: &mut [u8], body: &mut [u8]) -> Result<CpimMessage, Refusal> {
+    message::new(b"text/plain", b"Hi", head, body)
+}
+
+fn small_with(
+    head: &mut [u8],
+    body: &mut [u8],
+    name: &[u8],
+    value: &[u8],
+) -> Result<CpimMessage, Refusal> {
+    let m = small(head, body)?;
+    message::set_header(m, head, name, value)
+}
+
+fn small_with_lang(head: &mut [u8], body: &mut [u8], value: &[u8]) -> Result<CpimMessage, Refusal> {
+    let m = small(head, body)?;
+    message::builders::with_subject_lang(m, head, value, b"en")
+}
+
+// What was made is written and read back; a refusal, which none of these has, is told.
+fn made_back(
+    rt: &impl Print,
+    name: &[u8],
+    made: Result<CpimMessage, Refusal>,
+    head: &[u8],
+    body: &[u8],
+) -> io::Result<()> {
+    match made {
+        Ok(m) => back(rt, name, m, head, body),
+        Err(_) => print_answer(rt, name, made),
+    }
 }
 
 fn headerless(rt: &impl Print) -> io::Result<()> {
     let mut head = [0u8; 1024];
     let mut body = [0u8; 2];
-    let m = message::new(b"text/plain", b"Hi", &mut head, &mut body);
-    back(rt, b"P6", m.message, &head, &body)
+    let made = small(&mut head, &mut body);
+    made_back(rt, b"P6", made, &head, &body)
 }
 
 fn with_lang(rt: &impl Print, name: &[u8], value: &[u8]) -> io::Result<()> {
     let mut head = [0u8; 1024];
     let mut body = [0u8; 2];
-    let m = message::new(b"text/plain", b"Hi", &mut head, &mut body);
-    let lang = message::builders::with_subject_lang(m.message, &mut head, value, b"en");
-    back(rt, name, lang.message, &head, &body)
+    let made = small_with_lang(&mut head, &mut body, value);
+    made_back(rt, name, made, &head, &body)
 }
 
 fn with_value(rt: &impl Print, name: &[u8], value: &[u8]) -> io::Result<()> {
     let mut head = [0u8; 1024];
     let mut body = [0u8; 2];
-    let m = message::new(b"text/plain", b"Hi", &mut head, &mut body);
-    let to = message::set_header(m.message, &mut head, b"To", value);
-    back(rt, name, to.message, &head, &body)
+    let made = small_with(&mut head, &mut body, b"To", value);
+    made_back(rt, name, made, &head, &body)
 }
 
 // Twenty content headers, then one of them again.
@@ -303,32 +337,43 @@ fn content_again(rt: &impl Print) -> io::Result<()> {
         &mut head,
         &mut body,
     );
-    let again = message::add_content_header(read.message, &mut head, b"a", b"2");
-    print_numbers(rt, b"P11", again.number, again.carried)
+    match read {
+        Ok(m) => print_answer(
+            rt,
+            b"P11",
+            message::add_content_header(m, &mut head, b"a", b"2"),
+        ),
+        Err(_) => print_answer(rt, b"P11", read),
+    }
 }
 
 // A parameter's value that no text can have.
 fn semicolon(rt: &impl Print) -> io::Result<()> {
     let mut store = [0u8; 64];
     let made = header::new(b"Hi", &mut store);
-    let a = header::with_param(made.header, &mut store, b"a", b"a;b");
-    print_numbers(rt, b"16 by a call", a.number, a.carried)
+    match made {
+        Ok(h) => print_answer(
+            rt,
+            b"16 by a call",
+            header::with_param(h, &mut store, b"a", b"a;b"),
+        ),
+        Err(_) => print_answer(rt, b"16 by a call", made),
+    }
 }
 
 // The body without a store, in two calls.
 fn body_of<'a>(rt: &impl Print, text: &'a [u8], buffer: &'a mut [u8]) -> io::Result<()> {
-    let a = read_body(text, buffer);
-    print_numbers(rt, b"body", a.number, a.carried)?;
-    rt.write_all(body_part(text, buffer, a.length))?;
+    let answer = read_body(text, buffer);
+    print_answer(rt, b"body", answer)?;
+    rt.write_all(body_part(text, buffer, answer.unwrap_or(0)))?;
     rt.write_all(b"\n")
 }
 
 fn bodies(rt: &impl Print) -> io::Result<()> {
-    let mut none = [0u8; 0];
     body_of(
         rt,
         b"message/cpim\r\n\r\nTo: a\r\n\r\nContent-type: text/plain\r\n\r\nHi",
-        &mut none,
+        &mut [],
     )?;
     let mut six = [0u8; 6];
     let mut five = [0u8; 5];
@@ -362,15 +407,18 @@ fn messages(rt: &impl Print) -> io::Result<()> {
 fn spaces(rt: &impl Print) -> io::Result<()> {
     let mut head = [0u8; 2048];
     let mut body = [0u8; 2];
-    let m = message::new(b"text/plain", b"Hi", &mut head, &mut body);
-    let value = [32u8; 1024];
-    let to = message::set_header(m.message, &mut head, b"To", &value);
+    let made = small_with(&mut head, &mut body, b"To", &[32u8; 1024]);
+    let Ok(m) = made else {
+        return print_answer(rt, b"spaces", made);
+    };
     let mut short = [0u8; 1101];
-    let less = to_string(to.message, &head, &body, &mut short);
-    print_numbers(rt, b"spaces, a byte short", less.number, less.carried)?;
+    print_answer(
+        rt,
+        b"spaces, a byte short",
+        to_string(m, &head, &body, &mut short),
+    )?;
     let mut full = [0u8; 1102];
-    let all = to_string(to.message, &head, &body, &mut full);
-    print_numbers(rt, b"spaces", all.number, all.carried)
+    print_answer(rt, b"spaces", to_string(m, &head, &body, &mut full))
 }
 
 // U+00A0 at the end, U+3000 in front, two spaces, a space behind an escape; and behind a parameter, which is read as part of the value.

@@ -1,34 +1,32 @@
 // Header lines by both readings (document 02, T-01): what the first and the second answer to each, and behind an accepted second reading the
 // value and the first parameter of the Subject. Then messages whose text is read by the second reading.
 
-use crate::{add, first};
-use format::CpimMessage;
-use lookup::{get_header, get_param_name, get_param_value};
+use crate::{add, first, numbers};
+use format::{CpimMessage, Numbers, Refusal};
+use lookup::{get_header, get_param};
 use read::{parse_cpim, parse_cpim_rfc};
 use roundtrip::comes_back_rfc;
 use std::io;
 use write::to_string;
 
-fn print_pair(rt: &impl Print, number: u64, carried: u64) -> io::Result<()> {
+fn print_pair<A: Copy>(rt: &impl Print, answer: Result<A, Refusal>) -> io::Result<()> {
+    let Numbers { number, carried } = numbers(answer);
     print!(rt; "{number} {carried}")
 }
 
 // The value of the Subject in brackets, and its first parameter, where there is one.
 fn print_subject(rt: &impl Print, m: CpimMessage, head: &[u8]) -> io::Result<()> {
-    let mut found = false;
-    let value = get_header(m, head, b"Subject", &mut found);
-    if !found {
+    let Some(value) = get_header(m, head, b"Subject") else {
         return rt.write_all(b" no Subject");
-    }
+    };
     rt.write_all(b" [")?;
     rt.write_all(value)?;
     rt.write_all(b"]")?;
-    let name = get_param_name(m, head, b"Subject", 0, 0, &mut found);
-    if found {
+    if let Some(param) = get_param(m, head, b"Subject", 0, 0) {
         rt.write_all(b" ")?;
-        rt.write_all(name)?;
+        rt.write_all(param.name)?;
         rt.write_all(b"=[")?;
-        rt.write_all(get_param_value(m, head, b"Subject", 0, 0, &mut found))?;
+        rt.write_all(param.value)?;
         rt.write_all(b"]")?;
     }
     Ok(())
@@ -44,13 +42,12 @@ fn line(rt: &impl Print, header: &[u8]) -> io::Result<()> {
     let mut body = [0u8; 2];
     rt.write_all(header)?;
     rt.write_all(b": ")?;
-    let one = parse_cpim(first(&text, at), &mut head, &mut body);
-    print_pair(rt, one.number, one.carried)?;
+    print_pair(rt, parse_cpim(first(&text, at), &mut head, &mut body))?;
     rt.write_all(b", ")?;
-    let two = parse_cpim_rfc(first(&text, at), &mut head, &mut body);
-    print_pair(rt, two.number, two.carried)?;
-    if two.number == 0 {
-        print_subject(rt, two.message, &head)?;
+    let second = parse_cpim_rfc(first(&text, at), &mut head, &mut body);
+    print_pair(rt, second)?;
+    if let Ok(m) = second {
+        print_subject(rt, m, &head)?;
     }
     rt.write_all(b"\n")
 }
@@ -111,30 +108,40 @@ fn back(rt: &impl Print, m: CpimMessage, head: &[u8], body: &[u8]) -> io::Result
         rt.write_all(b" does not come back:")?;
     }
     let mut out = [0u8; 1024];
-    let n = to_string(m, head, body, &mut out);
+    let n = to_string(m, head, body, &mut out).unwrap_or(0);
     let mut again = [0u8; 1024];
     let mut store = [0u8; 2];
-    let a = parse_cpim_rfc(first(&out, n.length), &mut again, &mut store);
+    let answer = parse_cpim_rfc(first(&out, n), &mut again, &mut store);
     rt.write_all(b" ")?;
-    print_pair(rt, a.number, a.carried)?;
-    if a.number == 0 {
-        print_subject(rt, a.message, &again)?;
+    print_pair(rt, answer)?;
+    if let Ok(m) = answer {
+        print_subject(rt, m, &again)?;
     }
     rt.write_all(b"\n")
 }
 
-// The umbrella with a parameter.
+// The umbrella with a parameter, in a message.
+fn with_umbrella(
+    head: &mut [u8],
+    body: &mut [u8],
+    param: &[u8],
+    value: &[u8],
+) -> Result<CpimMessage, Refusal> {
+    let m = message::new(b"text/plain", b"Hi", head, body)?;
+    let mut store = [0u8; 256];
+    let mut h = header::new(b"Umbrella", &mut store)?;
+    h = header::with_param(h, &mut store, param, value)?;
+    message_add_obj::add_header_obj(m, head, b"Subject", h, &store)
+}
+
 fn umbrella(rt: &impl Print, param: &[u8], value: &[u8]) -> io::Result<()> {
     let mut head = [0u8; 1024];
     let mut body = [0u8; 2];
-    let m = message::new(b"text/plain", b"Hi", &mut head, &mut body);
-    let mut store = [0u8; 256];
-    let made = header::new(b"Umbrella", &mut store);
-    let set = header::with_param(made.header, &mut store, param, value);
-    let held = message_add_obj::add_header_obj(
-        m.message, &mut head, b"Subject", set.header, &store,
-    );
-    back(rt, held.message, &head, &body)
+    let held = with_umbrella(&mut head, &mut body, param, value);
+    match held {
+        Ok(m) => back(rt, m, &head, &body),
+        Err(_) => print_pair(rt, held),
+    }
 }
 
 // Its parameter, and whether it comes back.

@@ -1,4 +1,2 @@
 pub mod Escapes
-pub mod Hex
-pub mod EscapedScalars
 pub mod Stretches

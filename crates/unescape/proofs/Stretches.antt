@@ -1,6 +1,8 @@
 -- One turn of the loops: a stretch without a backslash is read as it is, and then the escape behind it. Assumes nothing.
 use Rattle.std.specs.Prelude.{if◌then◌else◌}
-use Prim.Native.Nat.{ℕ, suc, ◌+◌, ◌≤◌, ◌<◌}
+use Rattle.std.specs.Prelude.{Some}
+use Rattle.std.specs.Option.{is_some}
+use Prim.Native.Nat.{ℕ, suc, ◌+◌, ◌-◌, ◌≤◌, ◌<◌}
 use mathlib.Core.Path.{◌≡◌, refl, sym, ap, ◌∙◌}
 use mathlib.Core.Bool.{Bool, true, false, false≢true}
 use mathlib.Core.List.{[], ◌∷◌, ◌++◌, append-nil}
@@ -8,14 +10,14 @@ use mathlib.Core.Option.{Option, none, some}
 use native.Mathlib.Omega.{arith}
 use lib.Dec.{eqb}
 use lib.ListN.{length, take, drop, length-append, length-drop, take-append-drop, drop_of_length-le}
-use lib.Seq.{drop-drop, length-take-le}
+use lib.Seq.{take_all}
 use borrow.Author.Tests.{eqb-true, eqb-false, ne_eqb}
 use Rattle.format.specs.Bytes.{Bytes, all, up_to, pasted}
 use Rattle.format.specs.Escaping.{Escape, escape_at, takes_of, in_front, escaped, unescape_from, unescape_by}
 use Rattle.format.specs.declared.Manner.{Manner}
-use Rattle.format.proofs.Escaping.Unescape.{unescape_skip, behind_behind, plain, plain_read, sound}
-use Rattle.octets.proofs.Paste.{pasted_pasted}
-use Rattle.octets.proofs.Find.{found_within, found_up_to}
+use Rattle.format.proofs.Escaping.Unescape.{unescape_skip, behind_nil, behind_behind, plain, plain_read, sound}
+use Rattle.octets.proofs.Paste.{pasted_nil, pasted_pasted, length_pasted}
+use Rattle.octets.proofs.Find.{found_up_to}
 use Rattle.unescape.specs.Reads.{measured, value_of}
 
 -- what stands before the first backslash has none
@@ -43,35 +45,20 @@ up_to_at (b ∷ s) h = go (eqb 92 b) refl (up_to_at s) h
     go true e f l = ap (λ (n : ℕ). n ∷ s) (sym (eqb-true 92 b e))
     go false e f l = f (omega arith)
 
--- One stretch: k bytes from i on, up to the next backslash.
-module _ (r : Manner) (s : Bytes) (i k : ℕ) (found : k ≡ length (up_to 92 (drop i s))) where
-  pub stretch_within : i ≤ length s → i + k ≤ length s
-  stretch_within h = omega (arith, found_within 92 (drop i s) k found, length-drop i s)
+-- What the text s reads as is what has been read, n bytes, in front of what is left, t, reads as.
+pub record Read (r : Manner) (s : Bytes) (n : ℕ) (t : Bytes) : Type 0 where
+  pub bytes : Bytes
+  pub so : unescape_by r s ≡ in_front bytes (unescape_by r t)
+  pub long : length bytes ≡ n
 
-  pub stretch : unescape_by r (drop i s) ≡ in_front (take k (drop i s)) (unescape_by r (drop (i + k) s))
-  stretch =
-      ap (unescape_by r) (sym (take-append-drop k (drop i s)))
-      ∙ plain_read r (take k (drop i s)) (drop k (drop i s)) (ap plain (sym (found_up_to 92 (drop i s) k found)) ∙ plain_up_to (drop i s))
-      ∙ ap (λ (l : Bytes). in_front (take k (drop i s)) (unescape_by r l)) (drop-drop k i s)
+pub nothing_read : (r : Manner) (s : Bytes) → Read r s 0 s
+nothing_read r s = record { bytes = []; so = sym (behind_nil (unescape_by r s)); long = refl }
 
-  backslash_at : i + k < length s → drop (i + k) s ≡ 92 ∷ drop (i + k + 1) s
-  backslash_at h =
-      let e : i + suc (length (up_to 92 (drop i s))) ≡ i + k + 1 = omega arith in
-      sym (drop-drop k i s)
-      ∙ ap (λ (n : ℕ). drop n (drop i s)) found
-      ∙ up_to_at (drop i s) (omega (arith, length-drop i s))
-      ∙ ap (λ (l : Bytes). 92 ∷ l)
-      (drop-drop (suc (length (up_to 92 (drop i s)))) i s ∙ ap (λ (n : ℕ). drop n s) e)
+-- what stands from the place m on
+pub tail_all : (m : ℕ) (b : Bytes) → take (length b - m) (drop m b) ≡ drop m b
+tail_all m b = take_all (length b - m) (drop m b) (simp length-drop (omega arith))
 
-  -- the escape behind it
-  pub behind_backslash_lem : i + k < length s
-      → unescape_by r (drop (i + k) s) ≡ escaped (escape_at r (drop (i + k + 1) s)) (unescape_by r (drop (takes_of (escape_at r (drop (i + k + 1) s))) (drop (i + k + 1) s)))
-  unfolding unescape_from
-  behind_backslash_lem h =
-      let t = drop (i + k + 1) s in
-      ap (unescape_by r) (backslash_at h) ∙ ap (escaped (escape_at r t)) (unescape_skip r (takes_of (escape_at r t)) t)
-
--- what is read from the escape behind the backslash at i + k, and where it ends
+-- what is read from the escape behind a backslash, and where it ends
 read_some : (r : Manner) (o : Option Escape) (e : Escape) (t : Bytes) → o ≡ some e → escaped o (unescape_by r (drop (takes_of o) t)) ≡ in_front e.stands (unescape_by r (drop e.takes t))
 read_some r none e t h = absurd (let z : ◌≡◌ {A = ℕ} 0 1 = cc in omega arith)
 read_some r (some d) e t h = let z : d ≡ e = cc in rw z refl
@@ -80,55 +67,141 @@ read_none : (o : Option Escape) (t : Option Bytes) → o ≡ none → escaped o 
 read_none none t h = refl
 read_none (some d) t h = absurd (let z : ◌≡◌ {A = ℕ} 0 1 = cc in omega arith)
 
--- One turn of a loop: w has been read from the first i bytes.
-module _ (r : Manner) (s : Bytes) (i k : ℕ) (found : k ≡ length (up_to 92 (drop i s))) (w : Bytes) (so : unescape_by r s ≡ in_front w (unescape_by r (drop i s))) where
-  pub read_stretch : unescape_by r s ≡ in_front (w ++ take k (drop i s)) (unescape_by r (drop (i + k) s))
-  read_stretch = so ∙ ap (in_front w) (stretch r s i k found) ∙ behind_behind w (take k (drop i s)) (unescape_by r (drop (i + k) s))
-
-  pub read_end : length s ≤ i + k → unescape_by r s ≡ some (w ++ take k (drop i s))
-  unfolding unescape_from
-  read_end h = read_stretch ∙ rw (drop_of_length-le s {i = i + k} h) (ap some (append-nil (w ++ take k (drop i s))))
-
-  pub read_refused : i + k < length s → escape_at r (drop (i + k + 1) s) ≡ none → unescape_by r s ≡ none
-  read_refused h e =
-      read_stretch
-      ∙ ap (in_front (w ++ take k (drop i s)))
-      (behind_backslash_lem r s i k found h
-      ∙ read_none (escape_at r (drop (i + k + 1) s)) (unescape_by r (drop (takes_of (escape_at r (drop (i + k + 1) s))) (drop (i + k + 1) s))) e)
-
-  pub read_escape : i + k < length s → (e : Escape) → escape_at r (drop (i + k + 1) s) ≡ some e
-      → unescape_by r s ≡ in_front ((w ++ take k (drop i s)) ++ e.stands) (unescape_by r (drop (i + k + 1 + e.takes) s))
-  read_escape h e q =
-      let t = drop (i + k + 1) s in
-      read_stretch
-      ∙ ap (in_front (w ++ take k (drop i s))) (behind_backslash_lem r s i k found h ∙ read_some r (escape_at r t) e t q)
-      ∙ behind_behind (w ++ take k (drop i s)) e.stands (unescape_by r (drop e.takes t))
-      ∙ ap (λ (l : Bytes). in_front ((w ++ take k (drop i s)) ++ e.stands) (unescape_by r l)) (drop-drop e.takes (i + k + 1) s)
-
 -- an escape lies within the text, and what it stands for is no longer than it
-pub escape_within : (r : Manner) (s : Bytes) (j : ℕ) (e : Escape) → j ≤ length s → escape_at r (drop j s) ≡ some e → (j + e.takes ≤ length s) × (length e.stands ≤ 1 + e.takes)
-escape_within r s j e h q = let o = sound r (drop j s) e q in (omega (arith, o.fits, length-drop j s), omega (arith, o.small))
+pub escape_within : (r : Manner) (b : Bytes) (e : Escape) → escape_at r b ≡ some e → (e.takes ≤ length b) × (length e.stands ≤ 1 + e.takes)
+escape_within r b e h = let o = sound r b e h in (o.fits, omega (arith, o.small))
+
+-- One turn of a loop: of the text t that is left, p stands up to the next backslash, at k, and q from it on.
+pub record Turn (t p q : Bytes) : Type 0 where
+  pub k : ℕ
+  pub found : k ≡ length (up_to 92 t)
+  pub front : p ≡ take k t
+  pub back : q ≡ drop k t
+
+pub read_stretch : {r : Manner} {s t p q : Bytes} {n : ℕ} → Read r s n t → Turn t p q → Read r s (n + length p) q
+read_stretch {r} {s} {t} {p} {q} so at = record {
+  bytes = so.bytes ++ p;
+  so = so.so ∙ ap (in_front so.bytes) stretch ∙ behind_behind so.bytes p (unescape_by r q);
+  long = length-append so.bytes p ∙ ap (λ (m : ℕ). m + length p) so.long;
+}
+  where
+    stretch : unescape_by r t ≡ in_front p (unescape_by r q)
+    stretch =
+        let k = at.k in
+        ap (unescape_by r) (sym (take-append-drop k t))
+        ∙ plain_read r (take k t) (drop k t) (ap plain (sym (found_up_to 92 t k at.found)) ∙ plain_up_to t)
+        ∙ ap (λ (l : Bytes). in_front l (unescape_by r (drop k t))) (sym at.front)
+        ∙ ap (λ (l : Bytes). in_front p (unescape_by r l)) (sym at.back)
+
+-- no backslash is left
+pub read_end : {r : Manner} {s q : Bytes} {n : ℕ} (so : Read r s n q) → length q < 1 → unescape_by r s ≡ some so.bytes
+unfolding unescape_from
+read_end {r} {s} {q} so h = so.so ∙ ap (λ (l : Bytes). in_front so.bytes (unescape_by r l)) (empty q h) ∙ ap some (append-nil so.bytes)
+  where
+    empty : (l : Bytes) → length l < 1 → l ≡ []
+    empty [] h = refl
+    empty (b ∷ l) h = absurd (omega arith)
+
+-- Behind the backslash stands b.
+module _ {r : Manner} {s t p q : Bytes} {n : ℕ} (so : Read r s n q) (at : Turn t p q) (more : 1 ≤ length q) (b : Bytes) (behind : b ≡ take (length q - 1) (drop 1 q)) where
+  escaped_so : unescape_by r q ≡ escaped (escape_at r b) (unescape_by r (drop (takes_of (escape_at r b)) b))
+  unfolding unescape_from
+  escaped_so =
+      let found = at.found in
+      let k = length (up_to 92 t) in
+      let back : q ≡ drop k t = at.back ∙ ap (λ (m : ℕ). drop m t) found in
+      let short : k < length t = omega (arith, ap length back, length-drop k t) in
+      let e : q ≡ 92 ∷ drop (suc k) t = back ∙ up_to_at t short in
+      let e : q ≡ 92 ∷ b = e ∙ ap (λ (l : Bytes). 92 ∷ l) (sym (behind ∙ tail_all 1 q ∙ ap (drop 1) e)) in
+      ap (unescape_by r) e ∙ ap (escaped (escape_at r b)) (unescape_skip r (takes_of (escape_at r b)) b)
+
+  pub read_refused : escape_at r b ≡ none → unescape_by r s ≡ none
+  read_refused h =
+      so.so ∙ ap (in_front so.bytes) (escaped_so ∙ read_none (escape_at r b) (unescape_by r (drop (takes_of (escape_at r b)) b)) h)
+
+  pub read_escape : (e : Escape) → escape_at r b ≡ some e → (m : ℕ) → m ≡ length e.stands → Read r s (n + m) (take (length b - e.takes) (drop e.takes b))
+  read_escape e h m l = record {
+    bytes = so.bytes ++ e.stands;
+    so =
+        so.so
+        ∙ ap (in_front so.bytes) (escaped_so ∙ read_some r (escape_at r b) e b h)
+        ∙ behind_behind so.bytes e.stands (unescape_by r (drop e.takes b))
+        ∙ ap (λ (l : Bytes). in_front (so.bytes ++ e.stands) (unescape_by r l)) (sym (tail_all e.takes b));
+    long = omega (arith, length-append so.bytes e.stands, so.long);
+  }
+
+-- how long what a text reads as is, and its bytes
+pub measured_some : {o : Option Bytes} {v : Bytes} {m : ℕ} → o ≡ some v → length v ≡ m → Some m ≡ measured o
+measured_some e l = rw (e, ← l) refl
 
 -- a text that reads is not refused
-pub not_refused : {A : Type 0} (o : Option Bytes) → (measured o).ok ≡ true → o ≡ none → A
-not_refused o h e = absurd (false≢true (sym (ap (λ (p : Option Bytes). (measured p).ok) e) ∙ h))
+pub not_refused : {A : Type 0} (o : Option Bytes) → is_some (measured o) ≡ true → o ≡ none → A
+not_refused o h e = absurd (false≢true (sym (ap (λ (p : Option Bytes). is_some (measured p)) e) ∙ h))
 
 -- a text that reads has room for what has been read of it
-pub front_room : (o q : Option Bytes) (x : Bytes) → o ≡ in_front x q → (measured o).ok ≡ true → length x ≤ length (value_of o)
+front_room : (o q : Option Bytes) (x : Bytes) → o ≡ in_front x q → is_some (measured o) ≡ true → length x ≤ length (value_of o)
 front_room o none x e h = not_refused o h e
 front_room o (some u) x e h = rw e (omega (arith, length-append x u))
 
--- how long a text is that reads
-pub measured_some : (o : Option Bytes) (v : Bytes) (m : ℕ) → o ≡ some v → length v ≡ m → record { ok = true; len = m } ≡ measured o
-measured_some o v m e l = rw (e, ← l) refl
+pub room : {r : Manner} {s t : Bytes} {n : ℕ} → Read r s n t → is_some (measured (unescape_by r s)) ≡ true → n ≤ length (value_of (unescape_by r s))
+room so h = omega (arith, front_room _ _ so.bytes so.so h, so.long)
 
--- and how long the stretch behind what was read
-pub stretch_length : (s : Bytes) (i k : ℕ) (w : Bytes) → i + k ≤ length s → length (w ++ take k (drop i s)) ≡ length w + k
-stretch_length s i k w h =
-    length-append w (take k (drop i s)) ∙ ap (λ (n : ℕ). length w + n) (length-take-le k (drop i s) (simp length-drop (omega arith)))
+-- What has been read is written over the bytes d from the place at on, and ends at the place to.
+pub record Written (r : Manner) (s t : Bytes) (at to : ℕ) (d out : Bytes) : Type 0 where
+  pub n : ℕ
+  pub read : Read r s n t
+  pub place : to ≡ at + n
+  pub wrote : out ≡ pasted at read.bytes d
+
+pub nothing_written : (r : Manner) (s : Bytes) (at : ℕ) (d : Bytes) → Written r s s at at d d
+unfolding nothing_read
+nothing_written r s at d = record { n = 0; read = nothing_read r s; place = omega arith; wrote = sym (pasted_nil at d) }
 
 -- what is written behind what was written
-pub behind-written :
-    (at to : ℕ) (w x d out new : Bytes) → at ≤ length d → to ≡ at + length w → out ≡ pasted at w d → new ≡ pasted to x out → new ≡ pasted at (w ++ x) d
-behind-written at to w x d out new h e o n =
+behind_written : (at to : ℕ) (w x d out new : Bytes) → at ≤ length d → to ≡ at + length w → out ≡ pasted at w d → new ≡ pasted to x out → new ≡ pasted at (w ++ x) d
+behind_written at to w x d out new h e o n =
     n ∙ ap (pasted to x) o ∙ ap (λ (k : ℕ). pasted k x (pasted at w d)) e ∙ pasted_pasted at w x d h
+
+pub written_kept : {r : Manner} {s t : Bytes} {at to : ℕ} {d out : Bytes} → Written r s t at to d out → to ≤ length d → length out ≡ length d
+written_kept {r} {s} {t} {at} {to} {d} w h = ap length w.wrote ∙ length_pasted at w.read.bytes d (omega (arith, w.place, w.read.long))
+
+pub stretch_written : {r : Manner} {s t p q : Bytes} {at to : ℕ} {d out new : Bytes} (w : Written r s t at to d out) → Turn t p q → at ≤ length d → new ≡ pasted to p out
+    → Written r s q at (to + length p) d new
+unfolding read_stretch
+stretch_written {r} {s} {t} {p} {q} {at} {to} {d} {out} {new} w turn h e = record {
+  n = w.n + length p;
+  read = read_stretch w.read turn;
+  place = omega (arith, w.place);
+  wrote = behind_written at to w.read.bytes p d out new h (omega (arith, w.place, w.read.long)) w.wrote e;
+}
+
+pub escape_written :
+    {r : Manner} {s t p q : Bytes} {at to : ℕ} {d out new : Bytes}
+    (w : Written r s q at to d out)
+    → Turn t p q
+    → 1 ≤ length q
+    → (e : Escape)
+    → escape_at r (take (length q - 1) (drop 1 q)) ≡ some e
+    → at ≤ length d
+    → new ≡ pasted to e.stands out
+    → (m : ℕ)
+    → m ≡ length e.stands
+    → Written r s (take (length (take (length q - 1) (drop 1 q)) - e.takes) (drop e.takes (take (length q - 1) (drop 1 q)))) at (to + m) d new
+unfolding read_escape
+escape_written {r} {s} {t} {p} {q} {at} {to} {d} {out} {new} w turn more e x h o m l = record {
+  n = w.n + m;
+  read = read_escape w.read turn more _ refl e x m l;
+  place = omega (arith, w.place);
+  wrote = behind_written at to w.read.bytes e.stands d out new h (omega (arith, w.place, w.read.long)) w.wrote o;
+}
+
+-- all of it is written
+pub written_all : {r : Manner} {s q : Bytes} {at to : ℕ} {d out : Bytes} → Written r s q at to d out → length q < 1
+    → (to ≡ at + length (value_of (unescape_by r s))) × (out ≡ pasted at (value_of (unescape_by r s)) d)
+written_all {r} {s} w h = rw (read_end w.read h) (omega (arith, w.place, w.read.long), w.wrote)
+
+-- a text without a backslash reads as it is
+pub plain_reads : (r : Manner) (s : Bytes) → length (up_to 92 s) ≡ length s → unescape_by r s ≡ some s
+unfolding read_stretch nothing_read
+plain_reads r s e =
+    read_end (read_stretch (nothing_read r s) (record { k = length s; found = sym e; front = sym (take_all (length s) s (omega arith)); back = sym (drop_of_length-le s {i = length s} (omega arith)) })) (omega arith)

@@ -1,3 +1,2 @@
 pub mod Backslash
 pub mod Reads
-pub mod Values

@@ -1,13 +1,13 @@
 -- What a text with escapes reads as, by its length and by its bytes. Assumes nothing.
-use Rattle.std.specs.Prelude.{true, false, [], length}
+use Rattle.std.specs.Prelude.{ℕ, [], length}
+use Rattle.std.specs.Prelude as std
 use Rattle.std.proofs.Math.Option.{Option, none, some}
 use Rattle.format.specs.Bytes.{Bytes}
-use Rattle.unescape.specs.declared.Unescaped.{Unescaped}
 
--- whether a text reads, and the length of what it reads as
-abbrev pub measured : Option Bytes → Unescaped
-measured none = record { ok = false; len = 0 }
-measured (some v) = record { ok = true; len = length v }
+-- how long what a text reads as is; none where it does not read
+abbrev pub measured : Option Bytes → std.Option ℕ
+measured none = std.None
+measured (some v) = std.Some (length v)
 
 -- what a text reads as; nothing where it does not read
 abbrev pub value_of : Option Bytes → Bytes

@@ -1,84 +1,90 @@
 // Document 01, "Escaping", and document 02, T-01: one escape behind its backslash, and which code point it stands for.
 
-ghost use Rattle.std.specs.Prelude.{◌≡◌, ◌≤◌, ◌<◌, length, drop};
-ghost use Rattle.format.specs.Escaping.{long_escape, apostrophe_escape, short_escape, escape_at};
-ghost use Rattle.unescape.specs.Backslash.{scalar_of, escape_of, code_of};
+ghost use Rattle.std.specs.Prelude.{◌≡◌, ◌<◌};
+ghost use Rattle.std.proofs.Math.Option.{some};
+ghost use Rattle.format.specs.Escaping.{scalar_escape, one_byte, long_escape, apostrophe_escape, short_escape, escape_at};
+ghost use Rattle.unescape.specs.Backslash.{escape_of, meant};
 
 use crate::digits::four_digits;
 use format::Manner;
 
-// What stands behind a backslash: the code point of an escape and how many bytes it takes there, or no escape.
+// An escape: its code point, of at most four digits, and how many bytes it takes behind the backslash.
 #[derive(Clone, Copy)]
-pub enum Read {
-    Code(u32, usize),
-    Nothing,
+pub struct Escape {
+    pub code: u16,
+    pub takes: u16,
 }
 
 // A code point behind `\u`: a surrogate is none.
-fn scalar(n: u32) -> Read
-    requires { n ≤ 65536 }
-    ensures { (escape_of result ≡ scalar_of n) × (code_of result < 65536) }
+#[tactic(auto, using(format::proofs::Characters::Shapes::scalar_low, format::proofs::Characters::Shapes::scalar_high, crate::proofs::Escapes::scalar_surrogate), unfolding(format::specs::Escaping::scalar_escape))]
+fn scalar(n: u16) -> Option<Escape>
+    ensures { escape_of result ≡ scalar_escape (some n) }
 {
-    if n < 55296 {
-        return Read::Code(n, 5);
+    match n {
+        0xD800..=0xDFFF => None,
+        _ => Some(Escape { code: n, takes: 5 }),
     }
-    if n < 57344 {
-        return Read::Nothing;
-    }
-    if n == 65536 {
-        return Read::Nothing;
-    }
-    Read::Code(n, 5)
 }
 
-// The four bytes behind `\u`, from i on.
-fn long_escape(manner: Manner, s: &[u8], i: usize) -> Read
-    requires { i ≤ length s.now }
-    ensures { (escape_of result ≡ long_escape manner (drop i s.now)) × (code_of result < 65536) }
+// The digits behind `\u`.
+#[tactic(auto, unfolding(format::specs::Escaping::long_escape, format::specs::Escaping::scalar_escape))]
+fn long_escape(manner: Manner, digits: &[u8]) -> Option<Escape>
+    ensures { escape_of result ≡ long_escape manner digits.now }
 {
-    if s.len() - i < 4 {
-        return Read::Nothing;
+    let &[a, b, c, d, ..] = digits else {
+        return None;
+    };
+    scalar(four_digits(manner, a, b, c, d)?)
+}
+
+// A short form, which one byte behind the backslash is all of.
+#[tactic(auto, using(format::proofs::Characters::Scalars::encoding_one))]
+fn one_byte(code: u8) -> Escape
+    requires { code < 128 }
+    ensures { some (meant result) ≡ one_byte code }
+{
+    Escape {
+        code: u16::from(code),
+        takes: 1,
     }
-    scalar(four_digits(manner, s[i], s[i + 1], s[i + 2], s[i + 3]))
 }
 
 // \' is an escape of the RFC alone.
-fn apostrophe(manner: Manner) -> Read
-    ensures { (escape_of result ≡ apostrophe_escape manner 39) × (code_of result < 65536) }
+#[tactic(auto, unfolding(format::specs::Escaping::apostrophe_escape))]
+fn apostrophe(manner: Manner) -> Option<Escape>
+    ensures { escape_of result ≡ apostrophe_escape manner 39 }
 {
     match manner {
-        Manner::Source => Read::Nothing,
-        Manner::Rfc => Read::Code(39, 1),
+        Manner::Source => None,
+        Manner::Rfc => Some(one_byte(b'\'')),
     }
 }
 
 // The letter of a short form.
-fn short_escape(manner: Manner, c: u8) -> Read
-    ensures { (escape_of result ≡ short_escape manner c) × (code_of result < 65536) }
+#[tactic(auto, unfolding(format::specs::Escaping::short_escape, format::specs::Escaping::apostrophe_escape))]
+fn short_escape(manner: Manner, letter: u8) -> Option<Escape>
+    ensures { escape_of result ≡ short_escape manner letter }
 {
-    match c {
-        92 => Read::Code(92, 1),
-        34 => Read::Code(34, 1),
-        98 => Read::Code(8, 1),
-        116 => Read::Code(9, 1),
-        110 => Read::Code(10, 1),
-        114 => Read::Code(13, 1),
-        39 => apostrophe(manner),
-        _ => Read::Nothing,
+    match letter {
+        b'\\' => Some(one_byte(b'\\')),
+        b'"' => Some(one_byte(b'"')),
+        b'b' => Some(one_byte(8)),
+        b't' => Some(one_byte(b'\t')),
+        b'n' => Some(one_byte(b'\n')),
+        b'r' => Some(one_byte(b'\r')),
+        b'\'' => apostrophe(manner),
+        _ => None,
     }
 }
 
-// The escape whose bytes behind the backslash begin at i.
-pub fn escape_at(manner: Manner, s: &[u8], i: usize) -> Read
-    requires { i ≤ length s.now }
-    ensures { (escape_of result ≡ escape_at manner (drop i s.now)) × (code_of result < 65536) }
+// The escape that the bytes behind a backslash begin with.
+#[tactic(auto, unfolding(format::specs::Escaping::escape_at))]
+pub fn escape_at(manner: Manner, behind: &[u8]) -> Option<Escape>
+    ensures { escape_of result ≡ escape_at manner behind.now }
 {
-    if s.len() <= i {
-        return Read::Nothing;
+    match behind {
+        [] => None,
+        [b'u', digits @ ..] => long_escape(manner, digits),
+        [letter, ..] => short_escape(manner, *letter),
     }
-    let c = s[i];
-    if c == 117 {
-        return long_escape(manner, s, i + 1);
-    }
-    short_escape(manner, c)
 }

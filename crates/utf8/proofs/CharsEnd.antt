@@ -1,4 +1,4 @@
--- Laws of charsEnd: where it stays, one character more, and over ASCII; what lies before it is UTF-8, and before stop it is where
+-- Laws of `chars_end`: where it stays, one character more, and over ASCII; what lies before it is UTF-8, and before stop it is where
 -- UTF-8 ends. Assumes nothing.
 use Prim.Native.Nat.{ℕ, zero, suc, ◌+◌, ◌-◌, ◌≤◌, ◌<◌}
 use mathlib.Core.Path.{◌≡◌, refl, ap, ◌∙◌}

@@ -1,32 +1,22 @@
 -- The tests of the specification hold exactly where Sound does, each answer of the code being one of them. Assumes nothing.
 use Prim.Native.Nat.{ℕ, zero, suc, ◌+◌, ◌≤◌, ◌<◌}
-use mathlib.Core.Path.{◌≡◌, refl, sym, ap, subst, ◌∙◌}
-use mathlib.Core.Bool.{Bool, true, false, not, ◌&&◌, ◌||◌, and-false}
+use mathlib.Core.Path.{◌≡◌, refl, sym, subst, ◌∙◌}
+use mathlib.Core.Bool.{Bool, true, false, not, ◌&&◌, ◌||◌, beq}
 use mathlib.Core.Logic.{◌⊎◌, ⊎_elim, inl, inr}
 use native.Mathlib.Omega.{arith}
 use native.Mathlib.Numerals.{add-one}
 use lib.Dec.{leb, ltb, eqb}
 use lib.ListN.{get_or}
 use borrow.Author.Count.{below_none, below_more}
-use borrow.Author.Tests.{lt-ltb, le-ltb, le-leb, lt-leb, eq-eqb, ne_eqb}
+use borrow.Author.Tests.{le-ltb, le-leb, lt-leb, eq-eqb, ne_eqb}
+use Rattle.std.specs.Prelude.{if◌then◌else◌}
+use Rattle.std.proofs.lemmas.Bool.Decides.{nat_tests}
 use Rattle.format.specs.Bytes.{Bytes}
 use Rattle.format.proofs.Lists.{bcase, below, clash, or_intro_right}
 use Rattle.format.proofs.Rulesets.{tests}
-use Rattle.utf8.specs.Sound.{Trailing, Sound, SoundAt, is_trailing, is_leading, is_owed, in_turn, least_behind, greatest_behind, is_sound, is_sound_at, all_sound, is_pair, all_pairs, bit}
+use Rattle.utf8.specs.Sound.{Trailing, Sound, SoundAt, is_trailing, is_leading, is_owed, in_turn, least_behind, greatest_behind, is_sound, is_sound_at, all_sound, is_pair, all_pairs}
 
--- a trailing byte, and bytes that are none
-pub trailing_is : (b : ℕ) → 0x80 ≤ b → b ≤ 0xBF → is_trailing b ≡ true
-unfolding is_trailing
-trailing_is b h i = simp tests (h, i)
-
-pub trailing_below : (b : ℕ) → b < 0x80 → is_trailing b ≡ false
-unfolding is_trailing
-trailing_below b h = rw (lt-leb 0x80 b h) refl
-
-pub trailing_above : (b : ℕ) → 0xBF < b → is_trailing b ≡ false
-unfolding is_trailing
-trailing_above b h = rw (lt-leb b 0xBF h) (and-false (leb 0x80 b))
-
+-- the tests give what they test
 trailing_from : (b : ℕ) → is_trailing b ≡ true → Trailing b
 unfolding is_trailing
 trailing_from b e = simp tests at e
@@ -38,14 +28,6 @@ leading_from b e =
     (λ l. inl l)
     (λ l. ⊎_elim (λ m. clash e (rw (le-ltb b 0x80 l, lt-leb 0xC2 b m) refl)) (λ m. inr m) (below b 0xC2))
     (below b 0x80)
-
-leading_is : (b : ℕ) → (b < 0x80) ⊎ (0xC2 ≤ b) → is_leading b ≡ true
-unfolding is_leading
-leading_is b h = ⊎_elim (λ l. rw (lt-ltb b 0x80 l) refl) (λ l. or_intro_right (ltb b 0x80) (leb 0xC2 b) (le-leb 0xC2 b l)) h
-
-leading_not : (b : ℕ) → 0x80 ≤ b → b < 0xC2 → is_leading b ≡ false
-unfolding is_leading
-leading_not b h i = rw (le-ltb b 0x80 h, lt-leb 0xC2 b i) refl
 
 -- what is owed behind three bytes
 module _ (p3 p2 p1 : ℕ) where
@@ -109,67 +91,6 @@ module _ (p3 p2 p1 b : ℕ) where
   unfolding in_turn
   turn_free o = rw o refl
 
-  -- b trails exactly where a trailing byte is owed, and is neither C0 nor C1
-  turn_is : bit (is_trailing b) ≡ bit (is_owed p3 p2 p1) → (b ≡ 0xC0 → ⊥) → (b ≡ 0xC1 → ⊥) → in_turn p3 p2 p1 b ≡ true
-  turn_is e x y =
-      ⊎_elim
-      (λ o. turn_owed o ∙ ⊎_elim (λ t. t) (λ f. absurd (omega (arith, rw (o, f) at e))) (bcase (is_trailing b)))
-      (λ o. turn_free o ∙ leading_is b (free (λ t. omega (arith, rw (o, t) at e))))
-      (bcase (is_owed p3 p2 p1))
-    where
-      free : (is_trailing b ≡ true → ⊥) → (b < 0x80) ⊎ (0xC2 ≤ b)
-      free n =
-          ⊎_elim
-          (λ l. inl l)
-          (λ l.
-          ⊎_elim
-          (λ m. ⊎_elim (λ g. absurd (n (trailing_is b l (omega arith)))) (λ g. inr (other g)) (below b 0xC0))
-          (λ m. inr m)
-          (below b 0xC2))
-          (below b 0x80)
-        where
-          other : 0xC0 ≤ b → 0xC2 ≤ b
-          other g = ⊎_elim (λ l. absurd (⊎_elim (λ z. x (omega arith)) (λ z. y (omega arith)) (below b 0xC1))) (λ l. l) (below b 0xC2)
-
-  turn_not : (bit (is_trailing b) ≡ bit (is_owed p3 p2 p1) → ⊥) → in_turn p3 p2 p1 b ≡ false
-  turn_not n =
-      ⊎_elim
-      (λ o. turn_owed o ∙ ⊎_elim (λ t. absurd (n (ap bit (t ∙ sym o)))) (λ f. f) (bcase (is_trailing b)))
-      (λ o.
-      turn_free o
-      ∙ ⊎_elim (λ t. let h = trailing_from b t in leading_not b h.0 (omega arith)) (λ f. absurd (n (ap bit (f ∙ sym o)))) (bcase (is_trailing b)))
-      (bcase (is_owed p3 p2 p1))
-
-  -- C0 and C1 neither trail nor lead
-  turn_never : 0xC0 ≤ b → b < 0xC2 → in_turn p3 p2 p1 b ≡ false
-  turn_never h i = ⊎_elim (λ o. turn_owed o ∙ trailing_above b (omega arith)) (λ o. turn_free o ∙ leading_not b (omega arith) i) (bcase (is_owed p3 p2 p1))
-
-  pub fault_turn : (bit (is_trailing b) ≡ bit (is_owed p3 p2 p1) → ⊥) → is_sound p3 p2 p1 b ≡ false
-  unfolding is_sound
-  fault_turn n = rw (turn_not n) refl
-
-  pub fault_least : b < least_behind p1 → is_sound p3 p2 p1 b ≡ false
-  unfolding is_sound
-  fault_least h = rw (lt-leb (least_behind p1) b h) (and-false (in_turn p3 p2 p1 b))
-
-  pub fault_greatest : greatest_behind p1 < b → is_sound p3 p2 p1 b ≡ false
-  unfolding is_sound
-  fault_greatest h = rw (lt-leb b (greatest_behind p1) h, and-false (leb (least_behind p1) b)) (and-false (in_turn p3 p2 p1 b))
-
-  pub fault_never : 0xC0 ≤ b → b < 0xC2 → is_sound p3 p2 p1 b ≡ false
-  unfolding is_sound
-  fault_never h i = rw (turn_never h i) refl
-
-  pub fault-none :
-      bit (is_trailing b) ≡ bit (is_owed p3 p2 p1)
-      → (b ≡ 0xC0 → ⊥)
-      → (b ≡ 0xC1 → ⊥)
-      → least_behind p1 ≤ b
-      → b ≤ greatest_behind p1
-      → is_sound p3 p2 p1 b ≡ true
-  unfolding is_sound
-  fault-none e x y l g = rw (turn_is e x y, le-leb (least_behind p1) b l, le-leb b (greatest_behind p1) g) refl
-
   -- a byte that passes the test is sound
   sound_from : is_sound p3 p2 p1 b ≡ true → Sound p3 p2 p1 b
   unfolding is_sound
@@ -212,40 +133,41 @@ all_from s (suc n) e =
     below_more (SoundAt s) n (all_from s n (simp tests at e).0) (at_from s n (simp tests at e).1) i
     (omega arith)
 
--- the worst so far, with one more: the larger of the two
-module _ (w f m : ℕ) (h : ((w < f) × (m ≡ f)) ⊎ ((f ≤ w) × (m ≡ w))) where
-  larger : (a b : Bool) → w ≡ bit (not a) → f ≡ bit (not b) → m ≡ bit (not (a && b))
-  larger true true e g = ⊎_elim (λ x. omega arith) (λ x. omega arith) h
-  larger true false e g = ⊎_elim (λ x. omega arith) (λ x. omega arith) h
-  larger false true e g = ⊎_elim (λ x. omega arith) (λ x. omega arith) h
-  larger false false e g = ⊎_elim (λ x. omega arith) (λ x. omega arith) h
+-- The tests of the code, which look at all of a byte's ways to stand wrong.
+wrong_turn : (o : Bool) (l g b : ℕ) → ((((not (beq (is_trailing b) o) || ltb b l) || ltb g b) || eqb b 0xC0) || eqb b 0xC1) ≡ not ((if o then is_trailing b else is_leading b) && (leb l b && leb b g))
+unfolding is_trailing is_leading
+wrong_turn true l g b = grind (arith, nat_tests)
+wrong_turn false l g b = grind (arith, nat_tests)
 
-  pub faults_more : (s : Bytes) (k : ℕ) → w ≡ bit (not (all_sound k s)) → f ≡ bit (not (is_sound (get_or s k 0) (get_or s (k + 1) 0) (get_or s (k + 2) 0) (get_or s (k + 3) 0))) → m ≡ bit (not (all_sound (k + 1) s))
-  unfolding all_sound is_sound_at
-  faults_more s k e g = rw (add-one k) (larger (all_sound k s) (is_sound (get_or s k 0) (get_or s (k + 1) 0) (get_or s (k + 2) 0) (get_or s (k + 3) 0)) e g)
+pub fault_is : (p3 p2 p1 b : ℕ)
+    → ((((not (beq (is_trailing b) (is_owed p3 p2 p1)) || ltb b (least_behind p1)) || ltb (greatest_behind p1) b) || eqb b 0xC0) || eqb b 0xC1) ≡ not (is_sound p3 p2 p1 b)
+unfolding is_sound in_turn
+fault_is p3 p2 p1 b = wrong_turn (is_owed p3 p2 p1) (least_behind p1) (greatest_behind p1) b
 
-  pub pairs_more : (s : Bytes) (k : ℕ) → w ≡ bit (not (all_pairs k s)) → f ≡ bit (not (is_pair (get_or s (k + 2) 0) (get_or s (k + 3) 0))) → m ≡ bit (not (all_pairs (k + 1) s))
-  unfolding all_pairs
-  pairs_more s k e g = rw (add-one k) (larger (all_pairs k s) (is_pair (get_or s (k + 2) 0) (get_or s (k + 3) 0)) e g)
+wrong_pair : (o : Bool) (b : ℕ) → (((not (beq (is_trailing b) o) || ltb 0xDF b) || eqb b 0xC0) || eqb b 0xC1) ≡ not (ltb b 0xE0 && (if o then is_trailing b else is_leading b))
+unfolding is_trailing is_leading
+wrong_pair true b = grind (arith, nat_tests)
+wrong_pair false b = grind (arith, nat_tests)
+
+pub pair_is : (p1 b : ℕ) → (((not (beq (is_trailing b) (is_owed 0 0 p1)) || ltb 0xDF b) || eqb b 0xC0) || eqb b 0xC1) ≡ not (is_pair p1 b)
+unfolding is_pair in_turn
+pair_is p1 b = wrong_pair (is_owed 0 0 p1) b
+
+-- one more byte is judged
+not_both : (a b w f : Bool) → w ≡ not a → f ≡ not b → (w || f) ≡ not (a && b)
+not_both true b w f e g = rw e g
+not_both false b w f e g = rw e refl
+
+pub faults_more : (s : Bytes) (k : ℕ) (w f : Bool) → w ≡ not (all_sound k s) → f ≡ not (is_sound (get_or s k 0) (get_or s (k + 1) 0) (get_or s (k + 2) 0) (get_or s (k + 3) 0)) → (w || f) ≡ not (all_sound (k + 1) s)
+unfolding all_sound is_sound_at
+faults_more s k w f e g = rw (add-one k) (not_both (all_sound k s) (is_sound (get_or s k 0) (get_or s (k + 1) 0) (get_or s (k + 2) 0) (get_or s (k + 3) 0)) w f e g)
+
+pub pairs_more : (s : Bytes) (k : ℕ) (w f : Bool) → w ≡ not (all_pairs k s) → f ≡ not (is_pair (get_or s (k + 2) 0) (get_or s (k + 3) 0)) → (w || f) ≡ not (all_pairs (k + 1) s)
+unfolding all_pairs
+pairs_more s k w f e g = rw (add-one k) (not_both (all_pairs k s) (is_pair (get_or s (k + 2) 0) (get_or s (k + 3) 0)) w f e g)
 
 -- b behind p1 where no character has more than two bytes
 module _ (p1 b : ℕ) where
-  pub pair_turn : (bit (is_trailing b) ≡ bit (is_owed 0 0 p1) → ⊥) → is_pair p1 b ≡ false
-  unfolding is_pair
-  pair_turn n = rw (turn_not 0 0 p1 b n) (and-false (ltb b 0xE0))
-
-  pub pair_greatest : 0xDF < b → is_pair p1 b ≡ false
-  unfolding is_pair
-  pair_greatest h = rw (le-ltb b 0xE0 (omega arith)) refl
-
-  pub pair_never : 0xC0 ≤ b → b < 0xC2 → is_pair p1 b ≡ false
-  unfolding is_pair
-  pair_never h i = rw (turn_never 0 0 p1 b h i) (and-false (ltb b 0xE0))
-
-  pub pair_none : bit (is_trailing b) ≡ bit (is_owed 0 0 p1) → (b ≡ 0xC0 → ⊥) → (b ≡ 0xC1 → ⊥) → b ≤ 0xDF → is_pair p1 b ≡ true
-  unfolding is_pair
-  pair_none e x y h = rw (turn_is 0 0 p1 b e x y, lt-ltb b 0xE0 (omega arith)) refl
-
   pair_below : is_pair p1 b ≡ true → b < 0xE0
   unfolding is_pair
   pair_below e = (simp tests at e).0
@@ -284,7 +206,7 @@ pairs_sound s (suc n) h0 h1 h2 e =
       subst (λ (k : ℕ). get_or s k 0 < 0xE0) three (pair_below (get_or s (n + 2) 0) (get_or s (n + 3) 0) pair),
     )
 
--- no fault: the test passes
-pub no_fault : (a : Bool) → bit (not a) ≡ 0 → a ≡ true
+-- where no pair is wrong
+pub no_fault : (a : Bool) → false ≡ not a → a ≡ true
 no_fault true e = refl
-no_fault false e = absurd (omega arith)
+no_fault false e = e

@@ -2,7 +2,7 @@
 use Rattle.std.specs.Prelude.{if◌then◌else◌}
 use Prim.Native.Nat.{ℕ, zero, suc, ◌+◌, ◌-◌, ◌≤◌, ◌<◌, max}
 use mathlib.Core.Path.{◌≡◌, refl, sym, ap, ◌∙◌}
-use mathlib.Core.Bool.{true, false, not, ◌&&◌, and-false}
+use mathlib.Core.Bool.{Bool, true, false, not, ◌&&◌, and-false}
 use mathlib.Core.Logic.{⊎_elim}
 use mathlib.Core.List.{[], ◌∷◌}
 use native.Mathlib.Omega.{arith}
@@ -11,9 +11,10 @@ use lib.Dec.{ltb, leb}
 use lib.ListN.{length, take, drop, get_or, drop_of_length-le}
 use lib.Seq.{drop-cons}
 use borrow.Author.Tests.{lt-ltb, le-ltb, le-leb, lt-leb}
+use Rattle.std.proofs.lemmas.Bool.{not-true, not-false}
 use Rattle.format.specs.Bytes.{Bytes, all}
 use Rattle.format.proofs.Lists.{bcase, below}
-use Rattle.utf8.specs.Sound.{all_sound, bit}
+use Rattle.utf8.specs.Sound.{all_sound}
 use Rattle.utf8.specs.Blocks.{is_settled, largest_of, whole_end, sound_end, block_end, blocks_from, blocks_end}
 use Rattle.utf8.proofs.Passed.{block_end_passed}
 
@@ -46,55 +47,33 @@ ascii_not [] h = absurd (omega arith)
 ascii_not (b ∷ s) h =
     ⊎_elim (λ l. rw (lt-ltb b 0x80 l) (ascii_not s (omega arith))) (λ l. rw (le-ltb b 0x80 l) refl) (below b 0x80)
 
--- the test of a settled place
-module _ (s : Bytes) (k : ℕ) where
-  pub settled_third : 0xF0 ≤ get_or s k 0 → is_settled s k ≡ false
-  unfolding is_settled
-  settled_third h = rw (le-ltb (get_or s k 0) 0xF0 h) refl
+-- the end of 64 bytes, n being the length of the part that is tested and r whether it has a fault
+module _ (s : Bytes) (k n : ℕ) (r : Bool) (e : n ≡ 67) (f : r ≡ not (all_sound 64 (take n (drop k s)))) where
+  judged : r ≡ not (all_sound 64 (take 67 (drop k s)))
+  judged = rw e at f
 
-  pub settled_second : 0xE0 ≤ get_or s (k + 1) 0 → is_settled s k ≡ false
-  unfolding is_settled
-  settled_second h = rw (le-ltb (get_or s (k + 1) 0) 0xE0 h) (and-false (ltb (get_or s k 0) 0xF0))
-
-  pub settled_first : get_or s k 0 < 0xF0 → get_or s (k + 1) 0 < 0xE0 → is_settled s k ≡ ltb (get_or s (k + 2) 0) 0xC2
-  unfolding is_settled
-  settled_first x y = rw (lt-ltb (get_or s k 0) 0xF0 x, lt-ltb (get_or s (k + 1) 0) 0xE0 y) refl
-
--- the end of 64 bytes, n being the length of the part that is tested and r the count of its faults
-module _ (s : Bytes) (k n r : ℕ) (e : n ≡ 67) (f : r ≡ bit (not (all_sound 64 (take n (drop k s))))) where
-  counted : r ≡ bit (not (all_sound 64 (take 67 (drop k s))))
-  counted = rw e at f
-
-  pub sound_not : 0 < r → sound_end s k ≡ k + 3
+  pub sound_not : r ≡ true → sound_end s k ≡ k + 3
   unfolding sound_end
-  sound_not h =
-      ⊎_elim
-      (λ t. absurd (omega (arith, rw t at counted)))
-      (λ t. rw t refl)
-      (bcase (all_sound 64 (take 67 (drop k s))))
+  sound_not h = rw (not-true (all_sound 64 (take 67 (drop k s))) (sym judged ∙ h)) refl
 
-  sound_is : r ≡ 0 → sound_end s k ≡ whole_end s k
+  sound_is : r ≡ false → sound_end s k ≡ whole_end s k
   unfolding sound_end
-  sound_is h =
-      ⊎_elim
-      (λ t. rw t refl)
-      (λ t. absurd (omega (arith, rw t at counted)))
-      (bcase (all_sound 64 (take 67 (drop k s))))
+  sound_is h = rw (not-false (all_sound 64 (take 67 (drop k s))) (sym judged ∙ h)) refl
 
-  pub sound_first : r ≡ 0 → 0xC2 ≤ get_or s (k + 66) 0 → sound_end s k ≡ k + 66
+  pub sound_first : r ≡ false → 0xC2 ≤ get_or s (k + 66) 0 → sound_end s k ≡ k + 66
   unfolding whole_end
   sound_first h x = sound_is h ∙ rw (le-leb 0xC2 (get_or s (k + 66) 0) x) refl
 
-  pub sound_second : r ≡ 0 → get_or s (k + 66) 0 < 0xC2 → 0xE0 ≤ get_or s (k + 65) 0 → sound_end s k ≡ k + 65
+  pub sound_second : r ≡ false → get_or s (k + 66) 0 < 0xC2 → 0xE0 ≤ get_or s (k + 65) 0 → sound_end s k ≡ k + 65
   unfolding whole_end
   sound_second h x y = sound_is h ∙ rw (lt-leb 0xC2 (get_or s (k + 66) 0) x, le-leb 0xE0 (get_or s (k + 65) 0) y) refl
 
-  pub sound_third : r ≡ 0 → get_or s (k + 66) 0 < 0xC2 → get_or s (k + 65) 0 < 0xE0 → 0xF0 ≤ get_or s (k + 64) 0 → sound_end s k ≡ k + 64
+  pub sound_third : r ≡ false → get_or s (k + 66) 0 < 0xC2 → get_or s (k + 65) 0 < 0xE0 → 0xF0 ≤ get_or s (k + 64) 0 → sound_end s k ≡ k + 64
   unfolding whole_end
   sound_third h x y z =
       sound_is h ∙ rw (lt-leb 0xC2 (get_or s (k + 66) 0) x, lt-leb 0xE0 (get_or s (k + 65) 0) y, le-leb 0xF0 (get_or s (k + 64) 0) z) refl
 
-  pub sound_all : r ≡ 0 → get_or s (k + 66) 0 < 0xC2 → get_or s (k + 65) 0 < 0xE0 → get_or s (k + 64) 0 < 0xF0 → sound_end s k ≡ k + 67
+  pub sound_all : r ≡ false → get_or s (k + 66) 0 < 0xC2 → get_or s (k + 65) 0 < 0xE0 → get_or s (k + 64) 0 < 0xF0 → sound_end s k ≡ k + 67
   unfolding whole_end
   sound_all h x y z =
       sound_is h ∙ rw (lt-leb 0xC2 (get_or s (k + 66) 0) x, lt-leb 0xE0 (get_or s (k + 65) 0) y, lt-leb 0xF0 (get_or s (k + 64) 0) z) refl

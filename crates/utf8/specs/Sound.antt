@@ -1,6 +1,6 @@
 -- What the test of a block asks of each byte, by the three bytes before it. It is not UTF-8 itself: proofs/Walk.antt derives
 -- Table 3-7 from it. Assumes nothing.
-use Rattle.std.specs.Prelude.{ℕ, zero, suc, ◌+◌, ◌≤◌, ◌<◌, ◌≡◌, Bool, true, false, ◌&&◌, ◌||◌, ◌⊎◌, leb, ltb, eqb, get_or, if◌then◌else◌}
+use Rattle.std.specs.Prelude.{ℕ, zero, suc, ◌+◌, ◌≤◌, ◌<◌, ◌≡◌, Bool, true, ◌&&◌, ◌||◌, ◌⊎◌, leb, ltb, eqb, get_or, if◌then◌else◌}
 use Rattle.format.specs.Bytes.{Bytes}
 
 abbrev pub Trailing : ℕ → Type 0
@@ -67,8 +67,3 @@ is_pair p1 b = ltb b 0xE0 && in_turn 0 0 p1 b
 unfoldable pub all_pairs : ℕ → Bytes → Bool
 all_pairs zero s = true
 all_pairs (suc n) s = all_pairs n s && is_pair (get_or s (n + 2) 0) (get_or s (n + 3) 0)
-
--- 1 where a test passes, else 0
-abbrev pub bit : Bool → ℕ
-bit true = 1
-bit false = 0

@@ -3,32 +3,28 @@
 ghost use Rattle.std.specs.Prelude.{◌≡◌, ◌+◌, ◌≤◌, length};
 ghost use Rattle.utf8.specs.Blocks.{largest_of, is_settled, sound_end, block_end, blocks_end};
 
+use crate::soundness::faults;
+
 // The largest byte of a part, without an early exit, so that the bytes are compared many at a time.
 pub fn largest(part: &[u8]) -> u8
     ensures { result ≡ largest_of part.now }
 {
     let mut top = 0u8;
-    for k in 0..part.len() {
-        let b = part[k];
-        if top < b {
-            top = b;
+    for b in part {
+        if top < *b {
+            top = *b;
         }
     }
     top
 }
 
 // Whether no character reaches over the place three behind `from`.
+#[tactic(auto, unfolding(crate::specs::Blocks::is_settled))]
 fn is_settled(s: &[u8], from: usize) -> bool
     requires { from + 3 ≤ length s.now }
     ensures { result ≡ is_settled s.now from }
 {
-    if 0xF0 <= s[from] {
-        return false;
-    }
-    if 0xE0 <= s[from + 1] {
-        return false;
-    }
-    s[from + 2] < 0xC2
+    s[from] < 0xF0 && s[from + 1] < 0xE0 && s[from + 2] < 0xC2
 }
 
 // Passes over the 64 bytes three behind `from`, of which `top` is the largest, but for a character that reaches over their end; over none
@@ -39,19 +35,17 @@ fn past_sound(s: &[u8], from: usize, top: u8) -> usize
 {
     let end = from + 67;
     let part = &s[from..end];
-    if 0 < crate::soundness::faults(part, top) {
-        return from + 3;
+    if faults(part, top) {
+        from + 3
+    } else if 0xC2 <= s[from + 66] {
+        from + 66
+    } else if 0xE0 <= s[from + 65] {
+        from + 65
+    } else if 0xF0 <= s[from + 64] {
+        from + 64
+    } else {
+        end
     }
-    if 0xC2 <= s[from + 66] {
-        return from + 66;
-    }
-    if 0xE0 <= s[from + 65] {
-        return from + 65;
-    }
-    if 0xF0 <= s[from + 64] {
-        return from + 64;
-    }
-    end
 }
 
 // Passes over a block of 64 bytes that are ASCII or sound, or over none.

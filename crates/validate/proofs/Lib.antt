@@ -1,2 +1,3 @@
-pub mod Searching
+pub mod Chains
 pub mod EmptyText
+pub mod Searching

@@ -1,18 +1,18 @@
--- A byte of a class looked for, a byte at a time. Assumes nothing.
-use Prim.Native.Nat.{ℕ, suc, ◌+◌, ◌≤◌, ◌<◌}
-use mathlib.Core.Path.{◌≡◌, sym}
+-- A byte of a class looked for by the library's methods. Assumes nothing.
+use Prim.Native.Nat.{ℕ}
+use mathlib.Core.Path.{◌≡◌, refl, sym, ap, ◌∙◌}
 use mathlib.Core.Bool.{Bool, ◌||◌, or_assoc, or-false}
-use native.Mathlib.Numerals.{add-one}
-use lib.ListN.{length, drop, get_or, drop_of_length-le}
-use lib.Seq.{drop-cons}
+use mathlib.Core.List.{[], ◌∷◌, ◌++◌}
+use Rattle.std.specs.List.{list_any}
 use Rattle.format.specs.Bytes.{Bytes, any}
 
--- one byte more is searched; f says whether one was found before
-pub any_step : (p : ℕ → Bool) (s : Bytes) (i : ℕ) (f : Bool) → i < length s
-    → (f || any p (drop i s)) ≡ ((f || p (get_or s i 0)) || any p (drop (i + 1) s))
+pub any_listed : (p : ℕ → Bool) (s : Bytes) → list_any p s ≡ any p s
 unfolding any
-any_step p s i f h = rw (drop-cons s i 0 h, add-one i) (sym (or_assoc f (p (get_or s i 0)) (any p (drop (suc i) s))))
+any_listed p [] = refl
+any_listed p (b ∷ s) = ap (λ (r : Bool). p b || r) (any_listed p s)
 
-pub any_end : (p : ℕ → Bool) (s : Bytes) (i : ℕ) (f : Bool) → length s ≤ i → (f || any p (drop i s)) ≡ f
+-- one byte more is searched
+pub any_push : (p : ℕ → Bool) (s : Bytes) (b : ℕ) → any p (s ++ (b ∷ [])) ≡ (any p s || p b)
 unfolding any
-any_end p s i f h = rw (drop_of_length-le s {i = i} h) (or-false f)
+any_push p [] b = or-false (p b)
+any_push p (a ∷ s) b = ap (λ (r : Bool). p a || r) (any_push p s b) ∙ sym (or_assoc (p a) (any p s) (p b))

@@ -1,7 +1,7 @@
 -- The text of a message in five parts, each written behind the one before it: there is room for each, and the last one makes the whole.
 -- Assumes nothing.
-use Prim.Native.Nat.{ℕ, ◌+◌, ◌≤◌}
-use mathlib.Core.Path.{◌≡◌, refl, sym, ap}
+use Prim.Native.Nat.{◌+◌, ◌≤◌}
+use mathlib.Core.Path.{◌≡◌, refl, sym, ap, ◌∙◌}
 use mathlib.Core.List.{[], ◌++◌, append_assoc, append-nil}
 use native.Mathlib.Omega.{arith}
 use lib.ListN.{length}
@@ -11,6 +11,8 @@ use Rattle.format.specs.Message.{Message}
 use Rattle.format.specs.Writing.{first_line, header_line, content_line, type_line, ended, write}
 use Rattle.octets.proofs.Written.{Written, written_none, written_all}
 use Rattle.write_parts.proofs.LineParts.{part_room, part_put}
+use Rattle.write_cursor.specs.declared.Writer.{Writer}
+use Rattle.write_cursor.specs.Wrote.{wrote}
 
 -- the five parts of a text
 abbrev start : Bytes
@@ -34,47 +36,58 @@ text_parts_lem m =
     let b = body m in
     rw (append-nil b) (ap (λ (x : Bytes). start ++ (hs ++ (crlf_text ++ x))) (sym (append_assoc t cs (crlf_text ++ b))))
 
--- The output is `whole` at first, and the text goes to its start. It is out₀ to out₄, and the next free byte at₀ to at₄, before each of the parts.
-module _ (m : Message) (whole : Bytes) (fits : length (write m) ≤ length whole) {out₀ : Bytes} {at₀ : ℕ} (o : out₀ ≡ whole) (z : at₀ ≡ 0) where
+-- what a writer is behind a part
+part : (w v : Writer) (t : Bytes) → v ≡ wrote w t → (v.at ≡ w.at + length t) × (v.out.now ≡ pasted w.at t w.out.now)
+part w v t e = (ap (λ (x : Writer). x.at) e, ap (λ (x : Writer). x.out.now) e)
+
+-- The output is `whole` at first, and the text goes to its start. The writer is w₀ to w₅ between the parts.
+module _ (m : Message) (whole : Bytes) (fits : length (write m) ≤ length whole) (w₀ : Writer) (o : w₀.out.now ≡ whole) (z : w₀.at ≡ 0) where
   room : 0 + length (write m) ≤ length whole
   room = omega arith
 
-  w₀ : Written (write m) whole out₀ 0 at₀ (write m)
-  w₀ = rw (o, z) (written_none (write m) whole 0)
+  first : Written (write m) whole w₀.out.now 0 w₀.at (write m)
+  first = rw (o, z) (written_none (write m) whole 0)
 
-  pub room₁ : at₀ + length start ≤ length out₀
-  room₁ = part_room w₀ room start (headers m ++ (content m ++ (crlf_text ++ (body m ++ [])))) (text_parts_lem m)
+  pub room₁ : w₀.at + length start ≤ length w₀.out.now
+  room₁ = part_room first room start (headers m ++ (content m ++ (crlf_text ++ (body m ++ [])))) (text_parts_lem m)
 
-  module _ {out₁ : Bytes} {at₁ : ℕ} (p₁ : at₁ ≡ at₀ + length start) (q₁ : out₁ ≡ pasted at₀ start out₀) where
-    w₁ : Written (write m) whole out₁ 0 at₁ (headers m ++ (content m ++ (crlf_text ++ (body m ++ []))))
-    w₁ = part_put w₀ room start (headers m ++ (content m ++ (crlf_text ++ (body m ++ [])))) (text_parts_lem m) (p₁, q₁)
+  module _ (w₁ : Writer) (e₁ : w₁ ≡ wrote w₀ start) where
+    second : Written (write m) whole w₁.out.now 0 w₁.at (headers m ++ (content m ++ (crlf_text ++ (body m ++ []))))
+    second = part_put first room start (headers m ++ (content m ++ (crlf_text ++ (body m ++ [])))) (text_parts_lem m) (part w₀ w₁ start e₁)
 
-    pub room₂ : at₁ + length (headers m) ≤ length out₁
-    room₂ = part_room w₁ room (headers m) (content m ++ (crlf_text ++ (body m ++ []))) refl
+    pub room₂ : w₁.at + length (headers m) ≤ length w₁.out.now
+    room₂ = part_room second room (headers m) (content m ++ (crlf_text ++ (body m ++ []))) refl
 
-    module _ {out₂ : Bytes} {at₂ : ℕ} (p₂ : at₂ ≡ at₁ + length (headers m)) (q₂ : out₂ ≡ pasted at₁ (headers m) out₁) where
-      w₂ : Written (write m) whole out₂ 0 at₂ (content m ++ (crlf_text ++ (body m ++ [])))
-      w₂ = part_put w₁ room (headers m) (content m ++ (crlf_text ++ (body m ++ []))) refl (p₂, q₂)
+    module _ (w₂ : Writer) (e₂ : w₂ ≡ wrote w₁ (headers m)) where
+      third : Written (write m) whole w₂.out.now 0 w₂.at (content m ++ (crlf_text ++ (body m ++ [])))
+      third = part_put second room (headers m) (content m ++ (crlf_text ++ (body m ++ []))) refl (part w₁ w₂ (headers m) e₂)
 
-      pub room₃ : at₂ + length (content m) ≤ length out₂
-      room₃ = part_room w₂ room (content m) (crlf_text ++ (body m ++ [])) refl
+      pub room₃ : w₂.at + length (content m) ≤ length w₂.out.now
+      room₃ = part_room third room (content m) (crlf_text ++ (body m ++ [])) refl
 
-      module _ {out₃ : Bytes} {at₃ : ℕ} (p₃ : at₃ ≡ at₂ + length (content m)) (q₃ : out₃ ≡ pasted at₂ (content m) out₂) where
-        w₃ : Written (write m) whole out₃ 0 at₃ (crlf_text ++ (body m ++ []))
-        w₃ = part_put w₂ room (content m) (crlf_text ++ (body m ++ [])) refl (p₃, q₃)
+      module _ (w₃ : Writer) (e₃ : w₃ ≡ wrote w₂ (content m)) where
+        fourth : Written (write m) whole w₃.out.now 0 w₃.at (crlf_text ++ (body m ++ []))
+        fourth = part_put third room (content m) (crlf_text ++ (body m ++ [])) refl (part w₂ w₃ (content m) e₃)
 
-        pub room₄ : at₃ + length crlf_text ≤ length out₃
-        room₄ = part_room w₃ room crlf_text (body m ++ []) refl
+        pub room₄ : w₃.at + length crlf_text ≤ length w₃.out.now
+        room₄ = part_room fourth room crlf_text (body m ++ []) refl
 
-        module _ {out₄ : Bytes} {at₄ : ℕ} (p₄ : at₄ ≡ at₃ + length crlf_text) (q₄ : out₄ ≡ pasted at₃ crlf_text out₃) where
-          w₄ : Written (write m) whole out₄ 0 at₄ (body m ++ [])
-          w₄ = part_put w₃ room crlf_text (body m ++ []) refl (p₄, q₄)
+        module _ (w₄ : Writer) (e₄ : w₄ ≡ wrote w₃ crlf_text) where
+          fifth : Written (write m) whole w₄.out.now 0 w₄.at (body m ++ [])
+          fifth = part_put fourth room crlf_text (body m ++ []) refl (part w₃ w₄ crlf_text e₄)
 
-          pub room₅ : at₄ + length (body m) ≤ length out₄
-          room₅ = part_room w₄ room (body m) [] refl
+          pub room₅ : w₄.at + length (body m) ≤ length w₄.out.now
+          room₅ = part_room fifth room (body m) [] refl
 
-          pub all_written : {r : ℕ} {last : Bytes} → r ≡ at₄ + length (body m) → last ≡ pasted at₄ (body m) out₄
-              → (r ≡ length (write m)) × (last ≡ pasted 0 (write m) whole)
-          all_written p q =
-              let w = written_all (part_put w₄ room (body m) [] refl (p, q)) room refl in
-              (omega (arith, w.0), w.1)
+          pub all_written : (w₅ : Writer) → w₅ ≡ wrote w₄ (body m)
+              → (w₅.at ≡ length (write m)) × (w₅.out.now ≡ pasted 0 (write m) whole) × (w₅.out.ghost_name ≡ w₀.out.ghost_name)
+          all_written w₅ e₅ =
+              let w = written_all (part_put fifth room (body m) [] refl (part w₄ w₅ (body m) e₅)) room refl in (
+                omega (arith, w.0),
+                w.1,
+                ap (λ (x : Writer). x.out.ghost_name) e₅
+                    ∙ ap (λ (x : Writer). x.out.ghost_name) e₄
+                    ∙ ap (λ (x : Writer). x.out.ghost_name) e₃
+                    ∙ ap (λ (x : Writer). x.out.ghost_name) e₂
+                    ∙ ap (λ (x : Writer). x.out.ghost_name) e₁,
+              )

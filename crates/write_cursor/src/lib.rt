@@ -1,6 +1,5 @@
-// Document 01, "Writing": "The writer is a record of the output and the next free byte." Each function over it takes it apart and calls the
-// one of `write_parts` on the output and the place. `write_text` takes plain slices. It keeps one writer throughout: through a function that
-// takes a writer and hands one back, a caller does not learn what its own output holds once the writer is gone.
+// Document 01, "Writing": "The writer is a record of the output and the next free byte." Each of its methods calls the function of
+// `write_parts` that writes at a place. `write_text` takes plain slices.
 #![tactic(auto)]
 
 ghost use Rattle.std.specs.Prelude.{◌≡◌, true, ◌++◌, ◌+◌, ◌≤◌, length};
@@ -20,77 +19,53 @@ pub struct Writer<'a> {
     pub at: usize,
 }
 
-// The borrow of the output goes into the writer, and the next free byte is the first.
-pub fn new<'a>(out: &'a mut [u8]) -> Writer<'a>
-    ensures { (result.out ≡ out.entry) × (result.at ≡ 0) }
-{
-    Writer { out: out, at: 0 }
-}
-
-// The first line, and a blank one.
-pub fn put_first<'a>(w: Writer<'a>) -> Writer<'a>
-    requires { w.at + length (ended first_line ++ crlf_text) ≤ length w.out.now }
-    ensures { result ≡ wrote w.entry (ended first_line ++ crlf_text) }
-{
-    let at = w.at;
-    let next = write_parts::put_first_at(&mut *w.out, at);
-    Writer {
-        out: w.out,
-        at: next,
+impl<'a> Writer<'a> {
+    // The borrow of the output goes into the writer, and the next free byte is the first.
+    pub fn new(out: &'a mut [u8]) -> Writer<'a>
+        ensures { (result.out ≡ out.entry) × (result.at ≡ 0) }
+    {
+        Writer { out, at: 0 }
     }
-}
 
-// A blank line.
-pub fn put_blank<'a>(w: Writer<'a>) -> Writer<'a>
-    requires { w.at + length crlf_text ≤ length w.out.now }
-    ensures { result ≡ wrote w.entry crlf_text }
-{
-    let at = w.at;
-    let next = write_parts::put_blank_at(&mut *w.out, at);
-    Writer {
-        out: w.out,
-        at: next,
+    // The first line, and a blank one.
+    pub fn put_first(&mut self)
+        requires { self.old.at + length (ended first_line ++ crlf_text) ≤ length self.old.out.now }
+        ensures { self.new ≡ wrote self.old (ended first_line ++ crlf_text) }
+    {
+        self.at = write_parts::put_first_at(self.out, self.at);
     }
-}
 
-// The lines of count headers.
-pub fn put_headers<'a, 'b>(w: Writer<'a>, s: &'b [u8], count: usize) -> Writer<'a>
-    requires { (headers_hold count s.now ≡ true) × (w.at + length (texts (λ h. ended (header_line h)) (headers_from count s.now)) ≤ length w.out.now) }
-    ensures { result ≡ wrote w.entry (texts (λ h. ended (header_line h)) (headers_from count s.now)) }
-{
-    let at = w.at;
-    let next = write_parts::lines::put_header_lines(&mut *w.out, at, s, count);
-    Writer {
-        out: w.out,
-        at: next,
+    // A blank line.
+    pub fn put_blank(&mut self)
+        requires { self.old.at + length crlf_text ≤ length self.old.out.now }
+        ensures { self.new ≡ wrote self.old crlf_text }
+    {
+        self.at = write_parts::put_blank_at(self.out, self.at);
     }
-}
 
-// A blank line, the type's, and those of count content headers.
-pub fn put_content_part<'a, 'b, 'c>(
-    w: Writer<'a>,
-    kind: &'b [u8],
-    s: &'c [u8],
-    count: usize,
-) -> Writer<'a>
-    requires { (shaped_all count s.now ≡ true) × (w.at + length (crlf_text ++ (ended (type_line kind.now) ++ texts (λ e. ended (content_line e)) (entries_from count s.now))) ≤ length w.out.now) }
-    ensures { result ≡ wrote w.entry (crlf_text ++ (ended (type_line kind.now) ++ texts (λ e. ended (content_line e)) (entries_from count s.now))) }
-{
-    let at = w.at;
-    let next = write_parts::put_content_part_at(&mut *w.out, at, kind, s, count);
-    Writer {
-        out: w.out,
-        at: next,
+    // The lines of count headers.
+    pub fn put_headers(&mut self, s: &[u8], count: usize)
+        requires { (headers_hold count s.now ≡ true) × (self.old.at + length (texts (λ h. ended (header_line h)) (headers_from count s.now)) ≤ length self.old.out.now) }
+        ensures { self.new ≡ wrote self.old (texts (λ h. ended (header_line h)) (headers_from count s.now)) }
+    {
+        self.at = write_parts::lines::put_header_lines(self.out, self.at, s, count);
     }
-}
 
-// The body: the place behind it is handed back, and the output with it.
-pub fn put_body<'a, 'b>(w: Writer<'a>, body: &'b [u8], end: usize) -> usize
-    requires { (end ≡ utf8_end body.now 0) × (w.at + length (replaced body.now) ≤ length w.out.now) }
-    ensures { (result ≡ w.entry.at + length (replaced body.now)) × (w.exit.0.now ≡ pasted w.entry.at (replaced body.now) w.entry.out.now) }
-{
-    let at = w.at;
-    write_parts::put_body_at(&mut *w.out, at, body, end)
+    // A blank line, the type's, and those of count content headers.
+    pub fn put_content_part(&mut self, kind: &[u8], s: &[u8], count: usize)
+        requires { (shaped_all count s.now ≡ true) × (self.old.at + length (crlf_text ++ (ended (type_line kind.now) ++ texts (λ e. ended (content_line e)) (entries_from count s.now))) ≤ length self.old.out.now) }
+        ensures { self.new ≡ wrote self.old (crlf_text ++ (ended (type_line kind.now) ++ texts (λ e. ended (content_line e)) (entries_from count s.now))) }
+    {
+        self.at = write_parts::put_content_part_at(self.out, self.at, kind, s, count);
+    }
+
+    // The body, of which all up to `end` is UTF-8.
+    pub fn put_body(&mut self, body: &[u8], end: usize)
+        requires { (end ≡ utf8_end body.now 0) × (self.old.at + length (replaced body.now) ≤ length self.old.out.now) }
+        ensures { self.new ≡ wrote self.old (replaced body.now) }
+    {
+        self.at = write_parts::put_body_at(self.out, self.at, body, end);
+    }
 }
 
 // The text of the message that stands in these bytes, from the output's start on.
@@ -107,12 +82,11 @@ pub fn write_text(
     requires { ((headers_hold many headers.now ≡ true) × (shaped_all count contents.now ≡ true) × (end ≡ utf8_end body.now 0)) × (length (write (message_of many headers.now kind.now count contents.now body.now)) ≤ length out.old) }
     ensures { (result ≡ length (write (message_of many headers.now kind.now count contents.now body.now))) × (out.new ≡ pasted 0 (write (message_of many headers.now kind.now count contents.now body.now)) out.old) }
 {
-    let mut w = new(out);
-    let at = w.at;
-    let first = write_parts::put_first_at(&mut *w.out, at);
-    let second = write_parts::lines::put_header_lines(&mut *w.out, first, headers, many);
-    let third = write_parts::put_content_part_at(&mut *w.out, second, kind, contents, count);
-    let fourth = write_parts::put_blank_at(&mut *w.out, third);
-    w.at = fourth;
-    put_body(w, body, end)
+    let mut writer = Writer::new(out);
+    writer.put_first();
+    writer.put_headers(headers, many);
+    writer.put_content_part(kind, contents, count);
+    writer.put_blank();
+    writer.put_body(body, end);
+    writer.at
 }

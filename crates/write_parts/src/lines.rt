@@ -34,11 +34,9 @@ fn put_param_texts(out: &mut [u8], at: usize, s: &[u8], count: usize) -> usize
 {
     let mut to = at;
     let mut from = 0;
-    let mut i = 0;
-    while i < count {
+    for _ in 0..count {
         to = put_param_text(out, to, s, from);
         from += entry_len(s, from);
-        i += 1;
     }
     to
 }
@@ -69,11 +67,9 @@ pub fn put_header_lines(out: &mut [u8], at: usize, s: &[u8], count: usize) -> us
 {
     let mut to = at;
     let mut from = 0;
-    let mut i = 0;
-    while i < count {
+    for _ in 0..count {
         to = put_header_line(out, to, s, from);
         from += entry_len(s, from);
-        i += 1;
     }
     to
 }
@@ -100,11 +96,9 @@ pub fn put_content_lines(out: &mut [u8], at: usize, s: &[u8], count: usize) -> u
 {
     let mut to = at;
     let mut from = 0;
-    let mut i = 0;
-    while i < count {
+    for _ in 0..count {
         to = put_content_line(out, to, s, from);
         from += entry_len(s, from);
-        i += 1;
     }
     to
 }

@@ -40,12 +40,10 @@ pub fn headers_len(s: &[u8], count: usize) -> usize
     ensures { (result ≡ length (texts (λ h. ended (header_line h)) (headers_from count s.now))) × (result < 6553601) }
 {
     let mut at = 0;
-    let mut i = 0;
     let mut n = 0;
-    while i < count {
+    for _ in 0..count {
         n += header_len(s, at);
         at += entry_len(s, at);
-        i += 1;
     }
     n
 }

@@ -82,8 +82,8 @@ fn functions() {
 fn records() {
     let header = plain(&without_comments(&file("cpim/cpim.h")));
     let sources = [
+        "cpim/src/answers.rt",
         "format/src/lib.rt",
-        "read/src/lib.rt",
         "read_split/src/lib.rt",
         "roundtrip/src/lib.rt",
         "lookup_places/src/spots.rt",

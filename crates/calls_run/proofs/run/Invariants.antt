@@ -5,9 +5,9 @@ use Rattle.calls_script.specs.Script.{state, calls_in}
 use Rattle.calls_run.proofs.RunLoop.{Leads}
 use Rattle.calls_run.proofs.run.Given as goal
 
-abbrev pub invariant-loop-so_far : goal.invariant-loop-so_far
-invariant-loop-so_far l =
+abbrev pub invariant-loop-next : goal.invariant-loop-next
+invariant-loop-next l =
     (l.at ≤ length l.script) × (length l.head ≡ length l.initial.head) × (length l.body ≡ length l.initial.body) × Leads (state l.so_far l.head l.body) (calls_in (drop l.at l.script)) (state l.initial.so_far l.initial.head l.initial.body) (calls_in l.script)
 
-abbrev pub decreases-loop-so_far : goal.decreases-loop-so_far
-decreases-loop-so_far l = length l.script - l.at
+abbrev pub decreases-loop-next : goal.decreases-loop-next
+decreases-loop-next l = length l.script - l.at

@@ -1,52 +1,37 @@
--- `calls_run::run_call` meets its contract: the kind of the call says what follows its number. Assumes nothing.
-use mathlib.Core.Path.{sym, ◌∙◌}
+-- `calls_run::run_call` meets its contract: the form of the call says what follows its number. Assumes nothing.
+use mathlib.Core.Path.{◌∙◌}
 use Prim.Native.Nat.{◌+◌}
-use lib.ListN.{drop, get_or}
-use Rattle.calls_script.specs.Script.{form_of}
-use Rattle.calls_run.proofs.CallRuns.{one_whole, two_whole, header_left, header_parts, form_run}
+use Rattle.calls_run.proofs.CallRuns.{text_whole, pair_whole, object_whole, text_run, pair_run, form_run, no_run, first_whole, second_whole, second_is}
 use Rattle.calls_run.proofs.run_call.Goals as goal
 
-pub one_call-requires : goal.one_call-requires
-one_call-requires c =
-    let s = c.args.script.now in
-    let at = c.args.at in
-    let f = form_of (get_or s at 0) in
-    let t = drop (at + 1) s in
-    let kind = sym c.kind_of-kind.ensures ∙ c.if-kind-eq1.true in
-    record { kind = kind; whole = one_whole t f kind c.requires.whole }
+pub argument_at-requires : goal.argument_at-requires
+argument_at-requires c = text_whole _ _ _ (rw c.in-Some-Text.field-0-is at c.in-Some-Text.ensures) c.requires.whole
 
-pub returns-then-kind-eq1 : goal.returns-then-kind-eq1
-returns-then-kind-eq1 c = c.one_call.ensures
+pub returns-in-Some-Text : goal.returns-in-Some-Text
+returns-in-Some-Text c = text_run _ _ _ _ _ _ (rw c.in-Some-Text.field-0-is at c.in-Some-Text.ensures) c.argument_at.ensures c.text_call.ensures
 
-pub two_call-requires : goal.two_call-requires
-two_call-requires c =
-    let s = c.args.script.now in
-    let at = c.args.at in
-    let f = form_of (get_or s at 0) in
-    let t = drop (at + 1) s in
-    let kind = sym c.kind_of-kind.ensures ∙ c.if-kind-eq2.true in
-    record { kind = kind; whole = two_whole t f kind c.requires.whole }
+pub argument_at-first-requires : goal.argument_at-first-requires
+argument_at-first-requires c = first_whole c.args.script.now (c.args.at + 1) (pair_whole _ _ _ (rw c.in-Some-Pair.field-0-is at c.in-Some-Pair.ensures) c.requires.whole)
 
-pub returns-then-kind-eq2 : goal.returns-then-kind-eq2
-returns-then-kind-eq2 c =
-    c.two_call.ensures c.args.body.now
+pub behind-requires : goal.behind-requires
+behind-requires c = first_whole c.args.script.now (c.args.at + 1) (pair_whole _ _ _ (rw c.in-Some-Pair.field-0-is at c.in-Some-Pair.ensures) c.requires.whole)
+
+pub argument_at-second-requires : goal.argument_at-second-requires
+argument_at-second-requires c =
+    let w = pair_whole _ _ _ (rw c.in-Some-Pair.field-0-is at c.in-Some-Pair.ensures) c.requires.whole in
+    second_whole c.args.script.now (c.args.at + 1) _ (first_whole c.args.script.now (c.args.at + 1) w) c.behind.ensures w
+
+pub returns-in-Some-Pair : goal.returns-in-Some-Pair
+returns-in-Some-Pair c =
+    let w = pair_whole _ _ _ (rw c.in-Some-Pair.field-0-is at c.in-Some-Pair.ensures) c.requires.whole in
+    pair_run _ _ _ _ _ _ _ (rw c.in-Some-Pair.field-0-is at c.in-Some-Pair.ensures) c.argument_at-first.ensures
+    (c.argument_at-second.ensures ∙ second_is c.args.script.now (c.args.at + 1) _ (first_whole c.args.script.now (c.args.at + 1) w) c.behind.ensures) (c.pair_call.ensures c.args.body.now)
 
 pub header_call-requires : goal.header_call-requires
-header_call-requires c =
-    let s = c.args.script.now in
-    let at = c.args.at in
-    let f = form_of (get_or s at 0) in
-    let t = drop (at + 1) s in
-    let kind = c.kind_of-kind.ensures in
-    let e = header_left t f (λ e. c.if-kind-eq1.false (kind ∙ e)) (λ e. c.if-kind-eq2.false (kind ∙ e)) c.requires.whole in
-    header_parts t f e c.requires.whole
+header_call-requires c = object_whole _ _ (rw c.in-Some-AddHeaderObj.field-0-is at c.in-Some-AddHeaderObj.ensures) c.requires.whole
 
-pub returns : goal.returns
-returns c =
-    let s = c.args.script.now in
-    let at = c.args.at in
-    let f = form_of (get_or s at 0) in
-    let t = drop (at + 1) s in
-    let kind = c.kind_of-kind.ensures in
-    let e = header_left t f (λ e. c.if-kind-eq1.false (kind ∙ e)) (λ e. c.if-kind-eq2.false (kind ∙ e)) c.requires.whole in
-    form_run t _ _ f e (c.header_call.ensures c.args.body.now)
+pub returns-in-Some-AddHeaderObj : goal.returns-in-Some-AddHeaderObj
+returns-in-Some-AddHeaderObj c = form_run _ _ _ _ (rw c.in-Some-AddHeaderObj.field-0-is at c.in-Some-AddHeaderObj.ensures) (c.header_call.ensures c.args.body.now)
+
+pub returns-in-None : goal.returns-in-None
+returns-in-None c = no_run _ _ _ c.in-None.ensures

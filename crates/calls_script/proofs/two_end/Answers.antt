@@ -1,26 +1,17 @@
 -- `calls_script::two_end` meets its contract. Assumes nothing.
-use Rattle.calls_script.proofs.ArgumentPlaces.{none_end, some_end, size_positive}
+use Rattle.calls_script.proofs.ArgumentPlaces.{none_end, some_end}
 use Rattle.calls_script.proofs.ArgumentEnds.{both_cut, both_end, next_within}
 use Rattle.calls_script.proofs.two_end.Goals as goal
 
-pub returns-then-next-eq0 : goal.returns-then-next-eq0
-returns-then-next-eq0 c =
-    let s = c.args.s.now in
-    let at = c.args.at in
-    both_cut s at (none_end _ _ _ (size_positive s at) c.argument_end-next.ensures c.if-next-eq0.true)
+pub returns-in_err-next : goal.returns-in_err-next
+returns-in_err-next c = rw c.from_residual.ensures (both_cut c.args.s.now c.args.at (none_end _ _ c.in_err-next.ensures))
 
-pub argument_end-requires : goal.argument_end-requires
-argument_end-requires c =
-    let s = c.args.s.now in
-    let at = c.args.at in
-    let next = c.argument_end-next.result in
-    let first = some_end _ _ next c.argument_end-next.ensures c.if-next-eq0.false in
-    next_within s at next first.0 first.1
+pub argument_end-requires-2 : goal.argument_end-requires-2
+argument_end-requires-2 c =
+    let first = some_end _ _ c.in_ok-next.next c.in_ok-next.ensures in
+    next_within c.args.s.now c.args.at c.in_ok-next.next first.0 first.1
 
 pub returns : goal.returns
 returns c =
-    let s = c.args.s.now in
-    let at = c.args.at in
-    let next = c.argument_end-next.result in
-    let first = some_end _ _ next c.argument_end-next.ensures c.if-next-eq0.false in
-    both_end s at next first.0 first.1 _ c.argument_end.ensures
+    let first = some_end _ _ c.in_ok-next.next c.in_ok-next.ensures in
+    both_end c.args.s.now c.args.at c.in_ok-next.next first.0 first.1 _ c.argument_end-2.ensures

@@ -1,33 +1,37 @@
 -- `header::with_param` meets its contract. Assumes nothing.
-use mathlib.Core.Path.{refl, sym, ◌∙◌}
-use Rattle.header.specs.Alone.{alone_in}
-use Rattle.header.proofs.HeaderExits.{both_texts, not_held, not_texts, when_held}
+use mathlib.Core.Path.{sym, ap, ◌∙◌}
+use mathlib.Core.Bool.{Bool, not}
+use borrow.Author.Tests.{not-true, not-false}
+use Rattle.format.specs.Refusals.{refuse_if, not_utf8, nothing_held}
+use Rattle.format.specs.Told.{meant}
+use Rattle.validate.proofs.Chains.{let_by, stopped}
+use Rattle.header.proofs.HeaderChecks.{turned_away, passed_on}
+use Rattle.header.proofs.HeaderExits.{not_held, when_held}
 use Rattle.header.proofs.with_param.Goals as goal
 
-pub returns-then-not-held : goal.returns-then-not-held
-returns-then-not-held c =
+pub returns-in_err-refuse_if : goal.returns-in_err-refuse_if
+unfolding meant
+returns-in_err-refuse_if c =
     let args = c.args in
-    not_held args.name.now args.value.now (alone_in args.h args.store.now) _ _
-    (sym c.header_holds-held.ensures ∙ c.if-not-held.true) refl refl
+    let refused = stopped _ _ _ c.in_err-refuse_if.ensures in
+    not_held args.name.now args.value.now args.h args.store.now _ _ (sym c.header_holds.ensures ∙ not-true _ refused)
+    (turned_away args.h args.store.now _ _ _ _ (c.in_err-refuse_if.ensures ∙ ap (λ (t : Bool). refuse_if t nothing_held) refused) c.from_residual.ensures.1)
 
-pub returns-then-not-texts : goal.returns-then-not-texts
-returns-then-not-texts c =
+pub returns-in_err-refuse_if-2 : goal.returns-in_err-refuse_if-2
+unfolding meant
+returns-in_err-refuse_if-2 c =
     let args = c.args in
-    let name = args.name.now in
-    let value = args.value.now in
-    not_texts name value (alone_in args.h args.store.now) _ _
-    (sym c.header_holds-held.ensures ∙ c.if-not-held.false)
-    (sym (both_texts name value _ _ c.is_utf8.ensures c.is_utf8-2.ensures) ∙ c.if-not-texts.true) refl refl
+    when_held args.name.now args.value.now args.h args.store.now _ _ (sym c.header_holds.ensures ∙ not-false _ (let_by _ _ c.in_ok-refuse_if.ensures))
+    (λ k held. turned_away args.h args.store.now _ _ _ _ (c.in_err-refuse_if-2.ensures ∙ ap (λ (t : Bool). refuse_if (not t) not_utf8) c.are_texts.ensures)
+    c.from_residual-in_err-refuse_if-2.ensures.1)
 
 pub set_param_held-requires : goal.set_param_held-requires
-set_param_held-requires c = sym c.header_holds-held.ensures ∙ c.if-not-held.false
+set_param_held-requires c = sym c.header_holds.ensures ∙ not-false _ (let_by _ _ c.in_ok-refuse_if.ensures)
 
 pub returns : goal.returns
+unfolding meant
 returns c =
     let args = c.args in
-    let name = args.name.now in
-    let value = args.value.now in
-    when_held name value (alone_in args.h args.store.now) _ _
-    (sym c.header_holds-held.ensures ∙ c.if-not-held.false)
-    (sym (both_texts name value _ _ c.is_utf8.ensures c.is_utf8-2.ensures) ∙ c.if-not-texts.false)
-    c.set_param_held.ensures
+    when_held args.name.now args.value.now args.h args.store.now _ _ (sym c.header_holds.ensures ∙ not-false _ (let_by _ _ c.in_ok-refuse_if.ensures))
+    (λ k held. passed_on args.h args.store.now _ _ _ _ (c.in_ok-refuse_if-2.ensures ∙ ap (λ (t : Bool). refuse_if (not t) not_utf8) c.are_texts.ensures)
+    (c.set_param_held.ensures k held))

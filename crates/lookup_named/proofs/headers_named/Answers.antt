@@ -8,7 +8,7 @@ use Rattle.format.specs.Characters.{is_utf8}
 use Rattle.store_check.specs.Holding.{message_holds}
 use Rattle.lookup_named.proofs.Grouping.{none_unheld, none_unnamed, named_within, named_listed}
 use Rattle.lookup_named.proofs.headers_named.Goals as goal
-use Rattle.lookup_named.proofs.headers_named.Goals.{Else-not-message_holds, Else-not-is_utf8, After-headers_of-g}
+use Rattle.lookup_named.proofs.headers_named.Goals.{Else-not-message_holds, Else-not-is_utf8, After-headers_of-g, then-not-message_holds-via-then-not-message_holds, then-not-message_holds-via-else-not-message_holds+then-not-is_utf8}
 
 holds : (c : Else-not-message_holds) → message_holds c.args.m c.args.head.now ≡ true
 holds c = sym c.message_holds.ensures ∙ c.if-not-message_holds.false
@@ -25,15 +25,10 @@ within c =
 pub returns-then-not-message_holds : goal.returns-then-not-message_holds
 returns-then-not-message_holds c =
     let args = c.args in
-    none_unheld args.m args.head.now args.name.now (sym c.message_holds.ensures ∙ c.if-not-message_holds.true)
-
-pub returns-then-not-is_utf8 : goal.returns-then-not-is_utf8
-returns-then-not-is_utf8 c =
-    let args = c.args in
-    λ o _. none_unnamed args.name.now (sym c.is_utf8.ensures ∙ c.if-not-is_utf8.true) o
-
-pub headers_of-g-requires : goal.headers_of-g-requires
-headers_of-g-requires c = holds (goal.at.headers_of-g-requires c).Else-not-message_holds
+    elim c.then-not-message_holds.branch [
+      | then-not-message_holds-via-then-not-message_holds w ↦ none_unheld args.m args.head.now args.name.now (sym c.message_holds.ensures ∙ w.if-not-message_holds.true)
+      | then-not-message_holds-via-else-not-message_holds+then-not-is_utf8 w ↦ λ o _. none_unnamed args.name.now (sym w.is_utf8.ensures ∙ w.if-not-is_utf8.true) o
+    ]
 
 pub overflow_add-from : goal.overflow_add-from
 overflow_add-from c = omega (arith, within (goal.at.overflow_add-from c).After-headers_of-g)

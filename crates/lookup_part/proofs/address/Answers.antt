@@ -1,20 +1,30 @@
 -- `lookup_part::address` meets its contract. Assumes nothing.
-use mathlib.Core.Path.{sym}
+use mathlib.Core.Path.{refl}
 use native.Mathlib.Omega.{arith}
-use borrow.Author.Tests.{not-true, not-false}
 use Rattle.lookup_part.proofs.AddressSigns.{span_absent, span_there}
 use Rattle.lookup_part.proofs.address.Goals as goal
 
-pub returns-then-not-span : goal.returns-then-not-span
-returns-then-not-span c =
-    rw (span_absent c.args.value.now c.address_span-span.result c.address_span-span.ensures (not-true _ c.if-not-span.true)) c.absent.ensures
+pub returns-in_err-from : goal.returns-in_err-from
+returns-in_err-from c = rw c.from_residual.ensures (span_absent c.args.value.now c.in_err-from.ensures)
 
-pub part-requires : goal.part-requires
-part-requires c =
-    let s = span_there c.args.value.now c.address_span-span.result c.address_span-span.ensures (not-false _ c.if-not-span.false) in
-    (omega (arith, s.ends), s.within)
+pub slice_bounds-result-count : goal.slice_bounds-result-count
+slice_bounds-result-count c =
+    let r = c.in_ok-from.field-0 in
+    omega (arith, (span_there c.args.value.now r.from r.to c.in_ok-from.ensures).ends)
+
+pub slice_bounds-result-start : goal.slice_bounds-result-start
+slice_bounds-result-start c =
+    let r = c.in_ok-from.field-0 in
+    let s = span_there c.args.value.now r.from r.to c.in_ok-from.ensures in
+    omega (arith, s.ends, s.within)
+
+pub slice_bounds-result-end : goal.slice_bounds-result-end
+slice_bounds-result-end c =
+    let r = c.in_ok-from.field-0 in
+    omega (arith, (span_there c.args.value.now r.from r.to c.in_ok-from.ensures).within)
 
 pub returns : goal.returns
 returns c =
-    let s = span_there c.args.value.now c.address_span-span.result c.address_span-span.ensures (not-false _ c.if-not-span.false) in
-    rw (s.is_address, sym s.there) c.part.ensures
+    let r = c.in_ok-from.field-0 in
+    let s = span_there c.args.value.now r.from r.to c.in_ok-from.ensures in
+    rw (s.is_address, s.there) refl

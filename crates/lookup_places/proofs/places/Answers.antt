@@ -4,6 +4,7 @@ use mathlib.Core.Bool.{true}
 use Prim.Native.Nat.{ℕ, ◌*◌}
 use native.Mathlib.Omega.{arith}
 use lib.ListN.{drop}
+use Rattle.format.specs.Told.{meant, told}
 use Rattle.store_check.specs.Holding.{message_holds}
 use Rattle.lookup_places.specs.Fronts.{fronted}
 use Rattle.lookup_places.proofs.PlacesExits.{few, in_store, placed_unheld, placed_full, placed_rows}
@@ -14,6 +15,7 @@ holds : (c : Else-not-message_holds) → message_holds c.args.m c.args.head.now 
 holds c = sym c.message_holds.ensures ∙ c.if-not-message_holds.false
 
 pub returns-then-not-message_holds : goal.returns-then-not-message_holds
+unfolding told meant
 returns-then-not-message_holds c =
     let args = c.args in
     placed_unheld args.m args.head.now args.out.now (sym c.message_holds.ensures ∙ c.if-not-message_holds.true)
@@ -26,17 +28,16 @@ overflow_mul-n c =
     let s = c in
     omega (arith, few s.args.m s.args.head.now (holds (goal.at.overflow_mul-n c).Else-not-message_holds), c.row_count-rows.ensures)
 
-pub overflow_mul-bytes : goal.overflow_mul-bytes
-overflow_mul-bytes c =
-    let s = c in
-    omega (arith, few s.args.m s.args.head.now (holds (goal.at.overflow_mul-bytes c).Else-not-message_holds), c.row_count-rows.ensures)
+pub overflow_mul-result : goal.overflow_mul-result
+overflow_mul-result c =
+    omega (arith, few c.args.m c.args.head.now (holds (goal.at.overflow_mul-result c).Else-not-message_holds), c.row_count-rows.ensures)
 
 pub returns-then-out-n : goal.returns-then-out-n
+unfolding told meant
 returns-then-out-n c =
     let s = c in
     let n = ap (λ (k : ℕ). 4 * k) c.row_count-rows.ensures in
     placed_full s.args.m s.args.head.now s.args.out.now (holds (goal.at.returns-then-out-n c).Else-not-message_holds) _ n (omega arith)
-    (omega (arith, few s.args.m s.args.head.now (holds (goal.at.returns-then-out-n c).Else-not-message_holds), n))
 
 pub put_rows-requires : goal.put_rows-requires
 put_rows-requires c =
@@ -47,6 +48,7 @@ pub shape_of-out : goal.shape_of-out
 shape_of-out c = c.put_rows.auto.out
 
 pub returns : goal.returns
+unfolding told
 returns c =
     let s = c in
     let rows = c.row_count-rows.ensures in

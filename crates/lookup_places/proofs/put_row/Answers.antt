@@ -1,22 +1,12 @@
 -- `lookup_places::put_row` meets its contract. Assumes nothing.
+use mathlib.Core.Path.{refl, ◌∙◌}
 use native.Mathlib.Omega.{arith}
-use lib.ListN.{length-set}
-use Rattle.lookup_places.proofs.Fronts.{stores_four}
+use lib.ListN.{length}
+use Rattle.std.proofs.lemmas.Slice.{put_mid-paste}
+use Rattle.octets.proofs.Paste.{paste_pasted}
 use Rattle.lookup_places.proofs.put_row.Goals as goal
-
-pub bounds-out-k-2 : goal.bounds-out-k-2
-bounds-out-k-2 c = simp length-set (omega arith)
-
-pub bounds-out-k-3 : goal.bounds-out-k-3
-bounds-out-k-3 c = simp length-set (omega arith)
-
-pub bounds-out-k-4 : goal.bounds-out-k-4
-bounds-out-k-4 c = simp length-set (omega arith)
-
-pub shape_of-out : goal.shape_of-out
-shape_of-out c = simp length-set (omega arith)
 
 pub returns : goal.returns
 returns c =
-    let args = c.args in
-    stores_four args.out.now args.k args.start args.name args.value args.params c.requires
+    let row = c.args.row.now in
+    put_mid-paste c.args.k _ c.args.out.now _ row (length row) c.copy_from_slice.ensures.after (omega (arith, c.told-row)) refl ∙ paste_pasted c.args.k row c.args.out.now

@@ -56,12 +56,6 @@ unfolding front_in
 overflow_add-at-in-loop-i-3 c =
     omega (arith, front (goal.at.overflow_add-at-in-loop-i-3 c).In-loop-i, c.name_len-name.ensures.0, c.value_len-value.ensures.0)
 
-pub overflow_add-i : goal.overflow_add-i
-overflow_add-i c = omega arith
-
-pub loop-i-smaller : goal.loop-i-smaller
-loop-i-smaller c = omega arith
-
 pub loop-i-preserved : goal.loop-i-preserved
 loop-i-preserved c =
     let args = c.args in

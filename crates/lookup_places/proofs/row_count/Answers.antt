@@ -16,23 +16,23 @@ within c = used_within c.args.m c.args.head.now c.requires
 pub overflow_add-to : goal.overflow_add-to
 overflow_add-to c = omega (arith, within (goal.at.overflow_add-to c).Start)
 
-pub slice_bounds-count_all-end : goal.slice_bounds-count_all-end
-slice_bounds-count_all-end c = omega (arith, within (goal.at.slice_bounds-count_all-end c).Start)
+pub slice_bounds-headers-end : goal.slice_bounds-headers-end
+slice_bounds-headers-end c = omega (arith, within (goal.at.slice_bounds-headers-end c).Start)
 
-pub count_all-requires : goal.count_all-requires
-count_all-requires c =
+pub count_params-requires : goal.count_params-requires
+count_params-requires c =
     (headers_in_order c.args.m c.args.head.now c.requires, headers_few c.args.m c.args.head.now c.requires)
 
 pub overflow_add-result : goal.overflow_add-result
 unfolding rows_held
 overflow_add-result c =
-    omega (arith, few c.args.m c.args.head.now c.requires, c.count_all.ensures)
+    omega (arith, few c.args.m c.args.head.now c.requires, c.count_params.ensures)
 
 pub overflow_add-result-2 : goal.overflow_add-result-2
 unfolding rows_held
 overflow_add-result-2 c =
-    omega (arith, few c.args.m c.args.head.now c.requires, c.count_all.ensures)
+    omega (arith, few c.args.m c.args.head.now c.requires, c.count_params.ensures)
 
 pub returns : goal.returns
 unfolding rows_held
-returns c = rw c.count_all.ensures refl
+returns c = rw c.count_params.ensures refl

@@ -6,32 +6,25 @@ use Rattle.format.specs.Calls.{set_header, arguments, lends, header_held, change
 use Rattle.message_rules.proofs.CallExits.{two_texts, call_refused, call_held, call_done}
 use Rattle.message.proofs.set_header.Goals as goal
 
-pub returns-then-n-ne0 : goal.returns-then-n-ne0
+pub returns-in_err-ready : goal.returns-in_err-ready
 unfolding arguments all lends header_held
-returns-then-n-ne0 c =
-    let args = c.args in
-    let m = args.m in
-    let head = args.head.now in
-    let name = args.name.now in
-    let value = args.value.now in
-    call_refused (set_header name value) m head name value _ refl (two_texts (is_utf8 name) (is_utf8 value)) c.ready-n.ensures _ c.if-n-ne0.true c.refused.ensures
+returns-in_err-ready c =
+    let name = c.args.name.now in
+    let value = c.args.value.now in
+    call_refused (set_header name value) c.args.m c.args.head.now name value refl (two_texts (is_utf8 name) (is_utf8 value)) _ _ c.in_err-ready.ensures
+    c.from_residual.ensures.1
 
 pub set_held-requires : goal.set_held-requires
 unfolding arguments all lends header_held
 set_held-requires c =
-    let args = c.args in
-    let m = args.m in
-    let head = args.head.now in
-    let name = args.name.now in
-    let value = args.value.now in
-    call_held (set_header name value) m head name value _ refl (two_texts (is_utf8 name) (is_utf8 value)) c.ready-n.ensures c.if-n-ne0.false
+    let name = c.args.name.now in
+    let value = c.args.value.now in
+    call_held (set_header name value) c.args.m c.args.head.now name value refl (two_texts (is_utf8 name) (is_utf8 value)) c.in_ok-ready.ensures
 
 pub returns : goal.returns
 unfolding arguments all lends header_held change
 returns c =
-    let args = c.args in
-    let m = args.m in
-    let head = args.head.now in
-    let name = args.name.now in
-    let value = args.value.now in
-    call_done (set_header name value) m head name value _ refl (two_texts (is_utf8 name) (is_utf8 value)) c.ready-n.ensures c.if-n-ne0.false _ _ c.set_held.ensures
+    let name = c.args.name.now in
+    let value = c.args.value.now in
+    call_done (set_header name value) c.args.m c.args.head.now name value refl (two_texts (is_utf8 name) (is_utf8 value)) c.in_ok-ready.ensures _ _
+    c.set_held.ensures

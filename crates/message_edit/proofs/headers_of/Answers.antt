@@ -1,40 +1,23 @@
 -- `message_edit::headers_of` meets its contract. Assumes nothing.
 use mathlib.Core.Path.{ap, ◌∙◌}
-use native.Mathlib.Omega.{arith}
-use lib.ListN.{length}
 use mathlib.Core.List.{List}
+use lib.ListN.{length}
 use Rattle.format.specs.Bytes.{total}
 use Rattle.store_entries.specs.Stored.{Stored, shaped_all, entries_in, stored_size}
 use Rattle.store_entries.specs.Passing.{under, of_name}
 use Rattle.message_edit.proofs.MessageBounds.{bounds, part_is, headers-grouped}
 use Rattle.message_edit.proofs.headers_of.Goals as goal
 
-pub overflow_add-end : goal.overflow_add-end
-overflow_add-end c =
-    let m = c.args.m in
-    let head = c.args.head.now in
-    let within = bounds m head c.requires in
-    omega (arith, within.used)
-
-pub slice_bounds-find_group-end : goal.slice_bounds-find_group-end
-slice_bounds-find_group-end c =
-    let m = c.args.m in
-    let head = c.args.head.now in
-    let within = bounds m head c.requires in
-    omega (arith, within.used)
-
 pub find_group-requires : goal.find_group-requires
 find_group-requires c =
     let m = c.args.m in
     let head = c.args.head.now in
-    let within = bounds m head c.requires in
-    ap (shaped_all m.headers) (part_is 256 m.headerlen head) ∙ within.headers_shaped
+    ap (shaped_all m.headers) (part_is 256 m.headerlen head) ∙ (bounds m head c.requires).headers_shaped
 
 pub returns : goal.returns
 returns c =
     let m = c.args.m in
     let head = c.args.head.now in
-    let within = bounds m head c.requires in
     let name = c.args.name.now in
     let e = ap (entries_in m.headers) (part_is 256 m.headerlen head) in
     let found = c.find_group.ensures in

@@ -1,54 +1,39 @@
 -- `message_rules::add_held` meets its contract. Assumes nothing.
-use mathlib.Core.Path.{refl}
-use native.Mathlib.Omega.{arith}
-use Rattle.format.specs.Bytes.{texts}
 use mathlib.Core.List.{[]}
+use native.Mathlib.Omega.{arith}
 use Rattle.format.specs.Validators.{header_name, header_value}
 use Rattle.format.specs.Calls.{header_obj_added, header_added}
 use Rattle.format.specs.Lending.{head_lent}
-use Rattle.format.proofs.Answers.{zero_passes}
-use Rattle.message_rules.proofs.MessageChecks.{handed_on, does_passed, name_short, value_short}
+use Rattle.validate.proofs.Chains.{passed}
+use Rattle.message_rules.proofs.MessageChecks.{turned_away, passed_on, name_short, value_short, plain_fits, plain_spelt}
 use Rattle.message_rules.proofs.add_held.Goals as goal
 
-pub returns-then-v-ne0 : goal.returns-then-v-ne0
+pub returns-in_err-validate_cpim_header_value : goal.returns-in_err-validate_cpim_header_value
 unfolding header_added
-returns-then-v-ne0 c =
-    let start = c in
-    let m = start.args.m in
-    let head = start.args.head.now in
-    let value = start.args.value.now in
-    λ k held. handed_on m head _ _ (header_value value) _ c.refused.ensures c.validate_cpim_header_value-v.ensures c.if-v-ne0.true
+returns-in_err-validate_cpim_header_value c =
+    λ k held. turned_away (λ r. head_lent r c.args.head.now) c.args.m _ (header_value c.args.value.now) _ _ c.in_err-validate_cpim_header_value.ensures
+    c.from_residual.ensures.1
 
-pub returns-then-n-ne0 : goal.returns-then-n-ne0
+pub returns-in_err-validate_header_name : goal.returns-in_err-validate_header_name
 unfolding header_added header_obj_added
-returns-then-n-ne0 c =
-    let start = c in
-    let m = start.args.m in
-    let head = start.args.head.now in
-    let name = start.args.name.now in
-    let value = start.args.value.now in
-    let v = zero_passes (header_value value) _ c.validate_cpim_header_value-v.ensures c.if-v-ne0.false in
-    λ k held. does_passed (head_lent m head) _ _ (header_value value) _ v
-    (handed_on m head _ _ (header_name name) _ c.refused-then-n-ne0.ensures c.validate_header_name-n.ensures c.if-n-ne0.true)
+returns-in_err-validate_header_name c =
+    λ k held. passed_on (header_value c.args.value.now) _ c.in_ok-validate_cpim_header_value.ensures
+    (turned_away (λ r. head_lent r c.args.head.now) c.args.m _ (header_name c.args.name.now) _ _ c.in_err-validate_header_name.ensures
+    c.from_residual-in_err-validate_header_name.ensures.1)
 
-pub append_held-requires : goal.append_held-requires
-append_held-requires c =
+pub append_held-requires-clause-fits : goal.append_held-requires-clause-fits
+append_held-requires-clause-fits c =
     let name = c.args.name.now in
     let value = c.args.value.now in
-    let v = zero_passes (header_value value) _ c.validate_cpim_header_value-v.ensures c.if-v-ne0.false in
-    let n = zero_passes (header_name name) _ c.validate_header_name-n.ensures c.if-n-ne0.false in
-    record { held = c.requires; value = (refl, refl); bytes = (omega (arith, name_short name n), omega (arith, value_short value v), omega arith, omega arith) }
+    let v = value_short value (passed (header_value value) c.in_ok-validate_cpim_header_value.ensures) in
+    let n = name_short name (passed (header_name name) c.in_ok-validate_header_name.ensures) in
+    plain_fits name value _ c.plain-new.ensures (omega arith) (omega arith)
 
 pub returns : goal.returns
-unfolding header_added header_obj_added texts
+unfolding header_added header_obj_added
 returns c =
-    let start = c in
-    let m = start.args.m in
-    let head = start.args.head.now in
-    let name = start.args.name.now in
-    let value = start.args.value.now in
-    let v = zero_passes (header_value value) _ c.validate_cpim_header_value-v.ensures c.if-v-ne0.false in
-    let n = zero_passes (header_name name) _ c.validate_header_name-n.ensures c.if-n-ne0.false in
-    λ k held. does_passed (head_lent m head) _ _ (header_value value) _ v
-    (does_passed (head_lent m head) _ _ (header_name name) _ n
-    (c.append_held.ensures k (record { name = name; value = value; params = [] }) held record { name_is = refl; value_is = refl; params_are = refl; tail_is = refl }))
+    let name = c.args.name.now in
+    let value = c.args.value.now in
+    λ k held. passed_on (header_value value) _ c.in_ok-validate_cpim_header_value.ensures
+    (passed_on (header_name name) _ c.in_ok-validate_header_name.ensures
+    (c.append_held.ensures k (record { name = name; value = value; params = [] }) held (plain_spelt name value _ c.plain-new.ensures)))

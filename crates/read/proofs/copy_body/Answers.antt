@@ -1,6 +1,6 @@
 -- `read::copy_body` meets its contract: what stands behind the place is the body (`body_crlf`). Assumes nothing.
-use mathlib.Core.Path.{◌≡◌, sym, ap, ◌∙◌}
-use mathlib.Core.Bool.{Bool, true, false}
+use mathlib.Core.Path.{sym, ap, ◌∙◌}
+use mathlib.Core.Bool.{Bool}
 use native.Mathlib.Omega.{arith}
 use lib.ListN.{length, drop}
 use Rattle.format.proofs.Lists.{rest_is}
@@ -10,23 +10,15 @@ use Rattle.read_split.specs.TextJudged.{body_behind}
 use Rattle.read.specs.TextLines.{copied_over}
 use Rattle.read.proofs.copy_body.Goals as goal
 
-pub returns-then-not-crlf : goal.returns-then-not-crlf
-returns-then-not-crlf c =
-    let behind = drop c.args.rest c.args.text.now in
-    let stored : (crlf : Bool) → c.args.crlf ≡ crlf → copied_over crlf behind c.args.store.now ≡ copied_over c.args.crlf behind c.args.store.now = λ crlf e. ap (λ (b : Bool). copied_over b behind c.args.store.now) (sym e) in
-    stored false c.if-not-crlf.true
-
 pub copy_at-requires : goal.copy_at-requires
 copy_at-requires c =
     let behind = drop c.args.rest c.args.text.now in
-    let crlf : c.args.crlf ≡ true = c.if-not-crlf.false in
     rw (rest_is c.args.text.now c.args.rest)
-    (omega (arith, ap length (body_crlf behind), ap (λ (b : Bool). length (body_behind b behind)) crlf, c.requires))
+    (omega (arith, ap length (body_crlf behind), ap (λ (b : Bool). length (body_behind b behind)) c.if-in_text.true, c.requires))
 
-pub returns : goal.returns
-returns c =
+pub returns-then-in_text : goal.returns-then-in_text
+returns-then-in_text c =
     let behind = drop c.args.rest c.args.text.now in
-    let stored : (crlf : Bool) → c.args.crlf ≡ crlf → copied_over crlf behind c.args.store.now ≡ copied_over c.args.crlf behind c.args.store.now = λ crlf e. ap (λ (b : Bool). copied_over b behind c.args.store.now) (sym e) in
     c.copy_at.ensures
     ∙ rw (rest_is c.args.text.now c.args.rest) (pasted_start behind c.args.store.now)
-    ∙ stored true c.if-not-crlf.false
+    ∙ ap (λ (b : Bool). copied_over b behind c.args.store.now) (sym c.if-in_text.true)

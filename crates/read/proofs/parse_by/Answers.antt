@@ -1,16 +1,12 @@
 -- `read::parse_by` meets its contract: a refused reading leaves zeros in both stores. Assumes nothing.
+use mathlib.Core.Path.{sym, ◌∙◌}
 use Rattle.format.specs.ReadingRfc.{line_reader}
-use Rattle.format.specs.Lending.{numbers_of}
-use Rattle.read.proofs.Endings.{zeros_kept, whole_refused}
+use Rattle.read.proofs.Endings.{zeros_kept, whole_refused_by}
 use Rattle.read.proofs.parse_by.Goals as goal
 
-pub returns-then-a-ne0 : goal.returns-then-a-ne0
-returns-then-a-ne0 c =
-    let read = c.read_both-a in
-    whole_refused (line_reader c.args.manner) c.args.text.now c.args.head.now (numbers_of read.result) c.if-a-ne0.true c.args.body.now read.ensures.answered _ _ _
-    c.no_message.ensures
-    (zeros_kept read.new.head c.args.head.now _ read.auto.head c.zero_fill.ensures)
-    (zeros_kept read.new.body c.args.body.now _ read.auto.body c.zero_fill-then-a-ne0.ensures)
-
-pub returns : goal.returns
-returns c = c.read_both-a.ensures.read c.if-a-ne0.false
+pub returns-then-is_err : goal.returns-then-is_err
+returns-then-is_err c =
+    let read = c.read_both-done in
+    whole_refused_by (line_reader c.args.manner) c.args.text.now c.args.head.now _ (zeros_kept read.new.head c.args.head.now _ read.auto.head c.zero_fill.ensures)
+    c.args.body.now _ (zeros_kept read.new.body c.args.body.now _ read.auto.body c.zero_fill-then-is_err.ensures)
+    read.result (sym c.is_err.ensures.value ∙ c.if-is_err.true) read.ensures.answered

@@ -3,11 +3,13 @@ use mathlib.Core.Path.{◌≡◌, sym, ap, ◌∙◌}
 use Rattle.format.specs.Bytes.{colon, up_to, past}
 use Rattle.format.specs.Characters.{trim}
 use Rattle.format.specs.Lending.{head_lent, lengths}
+use Rattle.format.specs.Told.{told}
 use Rattle.read_content_line.proofs.ContentLine.{line_skipped, line_typed, line_named}
 use Rattle.read_content_line.proofs.read_content_line.Goals as goal
 use Rattle.read_content_line.proofs.read_content_line.Goals.{After-same_letters}
 
 pub returns-then-not-has : goal.returns-then-not-has
+unfolding told
 returns-then-not-has c =
     let m = c.args.m in
     let head = c.args.head.now in
@@ -31,9 +33,9 @@ returns-then-same_letters c =
     (sym c.same_letters.ensures ∙ c.if-same_letters.true)
     (c.set_type.ensures k held)
 
-pub returns : goal.returns
-returns c =
-    let at = (goal.at.returns c).After-same_letters in
+pub returns-else-same_letters : goal.returns-else-same_letters
+returns-else-same_letters c =
+    let at = (goal.at.returns-else-same_letters c).After-same_letters in
     let line = c.args.line.now in
     λ k held. line_named _ _ _ (lengths (head_lent c.args.m c.args.head.now)) line _ _ k
     (sym c.has.ensures ∙ c.if-not-has.false)

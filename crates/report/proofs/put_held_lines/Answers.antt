@@ -6,10 +6,11 @@ use Rattle.report.proofs.put_held_lines.Goals as goal
 
 pub put_message-requires : goal.put_message-requires
 put_message-requires c =
-    (c.requires.0, kind_short c.args.m c.args.head.now c.content_type-kind.result.now _ c.content_type-kind.ensures c.requires.1)
+    (c.requires.0, rw c.unwrap_or-kind.ensures (kind_short c.args.m c.args.head.now c.content_type.result c.content_type.ensures _ c.requires.1))
 
 pub returns : goal.returns
 returns c =
     let args = c.args in
     λ k held.
-    puts_as _ 1655 (held_lines args.m args.head.now c.content_type-kind.result.now _ c.content_type-kind.ensures c.count_params-params.result c.count_params-params.ensures k held) (omega arith) c.put_message.ensures
+    puts_as _ 1655
+    (rw c.unwrap_or-kind.ensures (held_lines args.m args.head.now c.content_type.result c.content_type.ensures _ c.count_params-params.result c.count_params-params.ensures k held)) (omega arith) c.put_message.ensures

@@ -7,5 +7,5 @@ pub returns : goal.returns
 returns c =
     let args = c.args in
     let told = c.loss_by in
-    let all = rfc_says (both_lent args.m args.head.now args.body.now) told.result told.ensures in
+    let all = rfc_says (both_lent args.m args.head.now args.body.now) told.result c.is_ok.result c.is_ok.ensures.value told.ensures in
     record { condition = all.0; theorem = all.1 }

@@ -1,55 +1,43 @@
 -- `roundtrip::early_loss` meets its contract: the clauses one by one. Assumes nothing.
-use mathlib.Core.Path.{◌∙◌}
+use mathlib.Core.Path.{sym, ◌∙◌}
+use Rattle.std.proofs.Common.{rules, Some, None, not}
+use Rattle.format.specs.Bytes.{ascii, same_letters}
+use Rattle.roundtrip.specs.Loss.{told}
+use Rattle.roundtrip.proofs.CountPassing.{not_types}
 use Rattle.roundtrip.proofs.Halves.{no_header, a_param, no_text, a-type, early-none}
 use Rattle.roundtrip.proofs.early_loss.Goals as goal
 
-pub params_passing-kept-requires : goal.params_passing-kept-requires
-params_passing-kept-requires c = (c.requires.0, c.requires.1)
-
-pub count_passing-named-requires : goal.count_passing-named-requires
-count_passing-named-requires c = c.requires.2
-
 pub returns-then-headers-eq0 : goal.returns-then-headers-eq0
+unfolding told
 returns-then-headers-eq0 c =
     let args = c.args in
-    λ xs ys lx ly.
-    c.lost.ensures
-    ∙ no_header args.manner args.hs.now args.cs.now args.headers args.contents xs ys lx ly args.body.now
-    c.params_passing-kept.result c.is_utf8-text.result c.count_passing-named.result (c.params_passing-kept.ensures xs lx) c.is_utf8-text.ensures c.count_passing-named.ensures
-    c.if-headers-eq0.true
+    λ xs ys lx ly. no_header args.manner xs ys args.body.now args.headers.count lx.entries c.if-headers-eq0.true
 
-pub returns-then-kept-headers : goal.returns-then-kept-headers
-returns-then-kept-headers c =
+pub returns-in-Some : goal.returns-in-Some
+unfolding told
+returns-in-Some c =
     let args = c.args in
-    λ xs ys lx ly.
-    c.lost-then-kept-headers.ensures
-    ∙ a_param args.manner args.hs.now args.cs.now args.headers args.contents xs ys lx ly args.body.now
-    c.params_passing-kept.result c.is_utf8-text.result c.count_passing-named.result (c.params_passing-kept.ensures xs lx) c.is_utf8-text.ensures c.count_passing-named.ensures
-    c.if-headers-eq0.false c.if-kept-headers.true
+    λ xs ys lx ly. a_param args.manner xs ys args.body.now args.headers.count lx.entries c.if-headers-eq0.false _ (c.in-Some.ensures xs lx)
 
-pub returns-then-not-text : goal.returns-then-not-text
-returns-then-not-text c =
+pub returns-then-not-is_utf8 : goal.returns-then-not-is_utf8
+unfolding told
+returns-then-not-is_utf8 c =
     let args = c.args in
-    λ xs ys lx ly.
-    c.lost-then-not-text.ensures
-    ∙ no_text args.manner args.hs.now args.cs.now args.headers args.contents xs ys lx ly args.body.now
-    c.params_passing-kept.result c.is_utf8-text.result c.count_passing-named.result (c.params_passing-kept.ensures xs lx) c.is_utf8-text.ensures c.count_passing-named.ensures
-    c.if-headers-eq0.false c.if-kept-headers.false c.if-not-text.true
+    λ xs ys lx ly. no_text args.manner xs ys args.body.now args.headers.count lx.entries c.if-headers-eq0.false (c.in_default.ensures xs lx)
+    (sym c.is_utf8.ensures ∙ c.if-not-is_utf8.true)
 
-pub returns-then-named-contents : goal.returns-then-named-contents
-returns-then-named-contents c =
+pub returns-in-Some-first_failing : goal.returns-in-Some-first_failing
+unfolding told
+returns-in-Some-first_failing c =
     let args = c.args in
-    λ xs ys lx ly.
-    c.lost-then-named-contents.ensures
-    ∙ a-type args.manner args.hs.now args.cs.now args.headers args.contents xs ys lx ly args.body.now
-    c.params_passing-kept.result c.is_utf8-text.result c.count_passing-named.result (c.params_passing-kept.ensures xs lx) c.is_utf8-text.ensures c.count_passing-named.ensures
-    c.if-headers-eq0.false c.if-kept-headers.false c.if-not-text.false c.if-named-contents.true
+    λ xs ys lx ly. a-type args.manner xs ys args.body.now args.headers.count lx.entries c.if-headers-eq0.false (c.in_default.ensures xs lx)
+    (sym c.is_utf8.ensures ∙ c.if-not-is_utf8.false) _
+    (not_types ys args.contents.bytes.now args.contents.count ly (Some c.in-Some-first_failing.entry) (c.in-Some-first_failing.ensures _ (record { says = λ e b h. search rules })))
 
 pub returns : goal.returns
+unfolding told
 returns c =
     let args = c.args in
-    λ xs ys lx ly.
-    c.lost-2.ensures
-    ∙ early-none args.manner args.hs.now args.cs.now args.headers args.contents xs ys lx ly args.body.now
-    c.params_passing-kept.result c.is_utf8-text.result c.count_passing-named.result (c.params_passing-kept.ensures xs lx) c.is_utf8-text.ensures c.count_passing-named.ensures
-    c.if-headers-eq0.false c.if-kept-headers.false c.if-not-text.false c.if-named-contents.false
+    λ xs ys lx ly. early-none args.manner xs ys args.body.now args.headers.count lx.entries c.if-headers-eq0.false (c.in_default.ensures xs lx)
+    (sym c.is_utf8.ensures ∙ c.if-not-is_utf8.false)
+    (not_types ys args.contents.bytes.now args.contents.count ly None (c.in_default-first_failing.ensures (λ e. not (same_letters (ascii "Content-type") e.name)) (record { says = λ e b h. search rules })))

@@ -1,50 +1,36 @@
 -- `roundtrip::late_loss` meets its contract: the clauses one by one. Assumes nothing.
-use mathlib.Core.Path.{◌∙◌}
+use mathlib.Core.Path.{sym, ◌∙◌}
+use Rattle.std.proofs.Common.{Some, None}
+use Rattle.format.specs.Demand3.{clear_content}
+use Rattle.roundtrip.specs.Clauses.{as_entry}
+use Rattle.roundtrip.specs.Loss.{told}
+use Rattle.roundtrip.proofs.CountPassing.{clear_contents}
 use Rattle.roundtrip.proofs.Halves.{a_name, a_content, the_type, late_none}
 use Rattle.roundtrip.proofs.late_loss.Goals as goal
 
-pub names_passing-names-requires : goal.names_passing-names-requires
-names_passing-names-requires c = c.requires.0
+pub returns-in-Some : goal.returns-in-Some
+unfolding told
+returns-in-Some c = λ xs ys lx ly. a_name c.args.manner xs ys c.args.kind.now _ (c.in-Some.ensures xs lx)
 
-pub count_passing-others-requires : goal.count_passing-others-requires
-count_passing-others-requires c = c.requires.1
-
-pub returns-then-names-headers : goal.returns-then-names-headers
-returns-then-names-headers c =
+pub returns-in-Some-first_failing : goal.returns-in-Some-first_failing
+unfolding told
+returns-in-Some-first_failing c =
     let args = c.args in
-    λ xs ys lx ly.
-    c.lost.ensures
-    ∙ a_name args.manner args.hs.now args.cs.now args.headers args.contents xs ys lx ly args.kind.now
-    c.names_passing-names.result c.count_passing-others.result c.clear_ends-clear.result
-    (c.names_passing-names.ensures xs lx) c.count_passing-others.ensures c.clear_ends-clear.ensures
-    c.if-names-headers.true
+    λ xs ys lx ly. a_content args.manner xs ys args.kind.now (c.in_default.ensures xs lx) _
+    (clear_contents ys args.contents.bytes.now args.contents.count ly (Some c.in-Some-first_failing.entry) (c.in-Some-first_failing.ensures _ (record { says = λ e b h. h.1 })))
 
-pub returns-then-others-contents : goal.returns-then-others-contents
-returns-then-others-contents c =
+pub returns-then-not-clear_ends : goal.returns-then-not-clear_ends
+unfolding told
+returns-then-not-clear_ends c =
     let args = c.args in
-    λ xs ys lx ly.
-    c.lost-then-others-contents.ensures
-    ∙ a_content args.manner args.hs.now args.cs.now args.headers args.contents xs ys lx ly args.kind.now
-    c.names_passing-names.result c.count_passing-others.result c.clear_ends-clear.result
-    (c.names_passing-names.ensures xs lx) c.count_passing-others.ensures c.clear_ends-clear.ensures
-    c.if-names-headers.false c.if-others-contents.true
-
-pub returns-then-not-clear : goal.returns-then-not-clear
-returns-then-not-clear c =
-    let args = c.args in
-    λ xs ys lx ly.
-    c.lost-then-not-clear.ensures
-    ∙ the_type args.manner args.hs.now args.cs.now args.headers args.contents xs ys lx ly args.kind.now
-    c.names_passing-names.result c.count_passing-others.result c.clear_ends-clear.result
-    (c.names_passing-names.ensures xs lx) c.count_passing-others.ensures c.clear_ends-clear.ensures
-    c.if-names-headers.false c.if-others-contents.false c.if-not-clear.true
+    λ xs ys lx ly. the_type args.manner xs ys args.kind.now (c.in_default.ensures xs lx)
+    (clear_contents ys args.contents.bytes.now args.contents.count ly None (c.in_default-first_failing.ensures (λ e. clear_content (as_entry e)) (record { says = λ e b h. h.1 })))
+    (sym c.clear_ends.ensures ∙ c.if-not-clear_ends.true)
 
 pub returns : goal.returns
+unfolding told
 returns c =
     let args = c.args in
-    λ xs ys lx ly.
-    c.lost-2.ensures
-    ∙ late_none args.manner args.hs.now args.cs.now args.headers args.contents xs ys lx ly args.kind.now
-    c.names_passing-names.result c.count_passing-others.result c.clear_ends-clear.result
-    (c.names_passing-names.ensures xs lx) c.count_passing-others.ensures c.clear_ends-clear.ensures
-    c.if-names-headers.false c.if-others-contents.false c.if-not-clear.false
+    λ xs ys lx ly. late_none args.manner xs ys args.kind.now (c.in_default.ensures xs lx)
+    (clear_contents ys args.contents.bytes.now args.contents.count ly None (c.in_default-first_failing.ensures (λ e. clear_content (as_entry e)) (record { says = λ e b h. h.1 })))
+    (sym c.clear_ends.ensures ∙ c.if-not-clear_ends.false)

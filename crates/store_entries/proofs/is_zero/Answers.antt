@@ -1,19 +1,17 @@
--- `store_entries::is_zero` meets its contract. The invariant: all so far were zero, and all from i on are. Assumes nothing.
-use mathlib.Core.Path.{refl, sym, ◌∙◌}
-use native.Mathlib.Omega.{arith}
+use mathlib.Core.Path.{◌≡◌, refl, ap, ◌∙◌}
+use borrow.Author.Rules.{rules}
+use borrow.Author.Tests.{tests}
 use lib.Dec.{eqb}
-use Rattle.store_entries.proofs.Zeros.{all_step, all_end}
+use Rattle.std.proofs.lemmas.Fn.{fold_over, fronts, slice_gives}
+use Rattle.format.specs.Bytes.{all}
+use Rattle.octets.proofs.ByteBlock.{all_push}
+use Rattle.store_entries.proofs.Zeros.{all_flipped}
 use Rattle.store_entries.proofs.is_zero.Goals as goal
 
-pub loop-i-init : goal.loop-i-init
-loop-i-init c = (omega arith, refl)
-
-pub loop-i-preserved : goal.loop-i-preserved
-loop-i-preserved c =
-    let s = c.args.s.now in
-    (omega arith, c.loop-i.invariant.1 ∙ all_step (eqb 0) s c.loop-i.i c.loop-i.zero (omega arith))
-
 pub returns : goal.returns
+unfolding all
 returns c =
-    let s = c.args.s.now in
-    sym (c.loop-i.invariant.1 ∙ all_end (eqb 0) s c.loop-i.i c.loop-i.zero (omega arith))
+    fold_over fronts (λ y. y.now) _ (λ ys a. a ≡ all (λ b. eqb b 0) ys) _
+    (λ ys a x b f' j k. (all_push (λ b. eqb b 0) ys x.now a b j (search (rules, tests)), search (rules, tests)))
+    _ _ _ _ (slice_gives c.iter.result) refl c.fold.ensures.ran
+    ∙ all_flipped c.iter.result.rest.now ∙ ap (all (eqb 0)) c.iter.ensures.rest

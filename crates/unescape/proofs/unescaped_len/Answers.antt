@@ -1,153 +1,53 @@
--- `unescape::unescaped_len` meets its contract. The invariant: w, of n bytes, has been read from the first i, and n is at most i. Assumes nothing.
-use mathlib.Core.Path.{◌≡◌, refl, sym, ap, ◌∙◌}
-use mathlib.Core.List.{[], ◌++◌}
-use Prim.Native.Nat.{ℕ, ◌+◌, ◌-◌, ◌≤◌}
+-- `unescape::unescaped_len` meets its contract. Assumes nothing.
+use mathlib.Core.Path.{refl, sym, ap, ◌∙◌}
+use Prim.Native.Nat.{◌+◌, ◌-◌, ◌≤◌}
 use native.Mathlib.Omega.{arith}
-use lib.ListN.{length, take, drop, length-drop, length-append}
-use lib.Seq.{take_all}
-use mathlib.Core.Option.{some, none}
-use Rattle.format.specs.Bytes.{Bytes, up_to}
+use lib.ListN.{length, take, drop, length-take, length-drop}
 use Rattle.format.specs.Characters.{encoding}
-use Rattle.format.specs.Escaping.{escape_at, unescape_by}
-use Rattle.format.proofs.Escaping.Unescape.{behind_nil}
-use Rattle.unescape.specs.Backslash.{escape_of}
+use Rattle.octets.proofs.Find.{found_within}
 use Rattle.unescape.specs.Reads.{measured}
-use Rattle.unescape.proofs.Stretches.{stretch_within, read_end, read_refused, read_escape, escape_within, measured_some, stretch_length}
+use Rattle.unescape.proofs.Stretches.{Read, Turn, read_stretch, read_end, read_refused, read_escape, escape_within, measured_some}
 use Rattle.unescape.proofs.unescaped_len.Goals as goal
+use Rattle.unescape.proofs.unescaped_len.Goals.{After-split_at, In_ok-code}
 
-pub loop-manner-init : goal.loop-manner-init
-loop-manner-init c = (omega arith, omega arith, [], sym (behind_nil (unescape_by c.args.manner c.args.s.now)), refl)
+pub split_at-requires : goal.split_at-requires
+split_at-requires c = omega (arith, found_within 92 c.loop-found.rest.now c.find_byte.result c.find_byte.ensures)
 
-pub overflow_add-n : goal.overflow_add-n
-overflow_add-n c =
-    let found : c.find_byte-k.result ≡ length (up_to 92 (drop c.loop-manner.i c.args.s.now)) = let s = c.args.s.now in
-    let i = c.loop-manner.i in
-    c.find_byte-k.ensures ∙ ap (λ (l : Bytes). length (up_to 92 l)) (take_all (length s - i) (drop i s) (simp length-drop (omega arith))) in
-    let within : c.loop-manner.i + c.find_byte-k.result ≤ length c.args.s.now = stretch_within c.args.manner c.args.s.now c.loop-manner.i c.find_byte-k.result found (omega arith) in
-    omega (arith, within)
+turn : (c : After-split_at) → Turn c.loop-found.rest.now c.split_at.result.0.now c.split_at.result.1.now
+turn c = record { k = c.find_byte.result; found = c.find_byte.ensures; front = c.split_at.ensures.front; back = c.split_at.ensures.back }
 
-pub overflow_add-end : goal.overflow_add-end
-overflow_add-end c =
-    let found : c.find_byte-k.result ≡ length (up_to 92 (drop c.loop-manner.i c.args.s.now)) = let s = c.args.s.now in
-    let i = c.loop-manner.i in
-    c.find_byte-k.ensures ∙ ap (λ (l : Bytes). length (up_to 92 l)) (take_all (length s - i) (drop i s) (simp length-drop (omega arith))) in
-    let within : c.loop-manner.i + c.find_byte-k.result ≤ length c.args.s.now = stretch_within c.args.manner c.args.s.now c.loop-manner.i c.find_byte-k.result found (omega arith) in
-    omega (arith, within)
+read : (c : After-split_at) → Read c.args.manner c.args.s.now (c.loop-found.n + length c.split_at.result.0.now) c.split_at.result.1.now
+read c = read_stretch c.loop-found.invariant.1 (turn c)
 
-pub returns-then-s-end : goal.returns-then-s-end
-returns-then-s-end c =
-    let found : c.find_byte-k.result ≡ length (up_to 92 (drop c.loop-manner.i c.args.s.now)) = let s = c.args.s.now in
-    let i = c.loop-manner.i in
-    c.find_byte-k.ensures ∙ ap (λ (l : Bytes). length (up_to 92 l)) (take_all (length s - i) (drop i s) (simp length-drop (omega arith))) in
-    let within : c.loop-manner.i + c.find_byte-k.result ≤ length c.args.s.now = stretch_within c.args.manner c.args.s.now c.loop-manner.i c.find_byte-k.result found (omega arith) in
-    let s = c.args.s.now in
-    let l = c.loop-manner in
-    let k = c.find_byte-k.result in
-    let w = l.invariant.2 in
-    measured_some (unescape_by c.args.manner s) (w ++ take k (drop l.i s)) (l.n + k)
-    (read_end c.args.manner s l.i k found w l.invariant.3 (omega arith)) (stretch_length s l.i k w within ∙ ap (λ (n : ℕ). n + k) l.invariant.4)
+pub returns-in_default : goal.returns-in_default
+returns-in_default c = let so = read (goal.at.returns-in_default c).After-split_at in measured_some (read_end so (omega arith)) so.long
 
-pub overflow_add-end-in-loop-manner : goal.overflow_add-end-in-loop-manner
-overflow_add-end-in-loop-manner c =
-    let found : c.find_byte-k.result ≡ length (up_to 92 (drop c.loop-manner.i c.args.s.now)) = let s = c.args.s.now in
-    let i = c.loop-manner.i in
-    c.find_byte-k.ensures ∙ ap (λ (l : Bytes). length (up_to 92 l)) (take_all (length s - i) (drop i s) (simp length-drop (omega arith))) in
-    let within : c.loop-manner.i + c.find_byte-k.result ≤ length c.args.s.now = stretch_within c.args.manner c.args.s.now c.loop-manner.i c.find_byte-k.result found (omega arith) in
-    omega (arith, within)
+pub returns-in_err-code : goal.returns-in_err-code
+returns-in_err-code c =
+    let at = (goal.at.returns-in_err-code c).After-split_at in
+    c.from_residual.ensures ∙ ap measured (sym (read_refused (read at) (turn at) (omega arith) _ refl (sym c.in_err-code.ensures)))
 
-pub escape_at-e-requires : goal.escape_at-e-requires
-escape_at-e-requires c =
-    let found : c.find_byte-k.result ≡ length (up_to 92 (drop c.loop-manner.i c.args.s.now)) = let s = c.args.s.now in
-    let i = c.loop-manner.i in
-    c.find_byte-k.ensures ∙ ap (λ (l : Bytes). length (up_to 92 l)) (take_all (length s - i) (drop i s) (simp length-drop (omega arith))) in
-    let within : c.loop-manner.i + c.find_byte-k.result ≤ length c.args.s.now = stretch_within c.args.manner c.args.s.now c.loop-manner.i c.find_byte-k.result found (omega arith) in
-    omega (arith, within)
+-- the escape lies within the text
+ends :
+    (c : In_ok-code)
+    → (c.in_ok-code.field-0.takes ≤ length (take (length c.split_at.result.1.now - 1) (drop 1 c.split_at.result.1.now)))
+    × (length (encoding c.in_ok-code.field-0.code) ≤ 1 + c.in_ok-code.field-0.takes)
+ends c = escape_within _ _ _ (sym c.in_ok-code.ensures)
 
-pub returns-in-Nothing : goal.returns-in-Nothing
-returns-in-Nothing c =
-    let found : c.find_byte-k.result ≡ length (up_to 92 (drop c.loop-manner.i c.args.s.now)) = let s = c.args.s.now in
-    let i = c.loop-manner.i in
-    c.find_byte-k.ensures ∙ ap (λ (l : Bytes). length (up_to 92 l)) (take_all (length s - i) (drop i s) (simp length-drop (omega arith))) in
-    let s = c.args.s.now in
-    let l = c.loop-manner in
-    let k = c.find_byte-k.result in
-    let r = c.escape_at-e in
-    let q : escape_at c.args.manner (drop (l.i + k + 1) s) ≡ none = sym r.ensures.0 ∙ ap escape_of c.in-Nothing.is in
-    sym (ap measured (read_refused c.args.manner s l.i k found l.invariant.2 l.invariant.3 (omega arith) q))
+pub overflow_add-n-in-loop-found : goal.overflow_add-n-in-loop-found
+overflow_add-n-in-loop-found c =
+    omega (arith, simp (length-take, length-drop) at (ends (goal.at.overflow_add-n-in-loop-found c).In_ok-code).0, (ends (goal.at.overflow_add-n-in-loop-found c).In_ok-code).1)
 
-pub overflow_add-n-in-Code : goal.overflow_add-n-in-Code
-overflow_add-n-in-Code c =
-    let found : c.find_byte-k.result ≡ length (up_to 92 (drop c.loop-manner.i c.args.s.now)) = let s = c.args.s.now in
-    let i = c.loop-manner.i in
-    c.find_byte-k.ensures ∙ ap (λ (l : Bytes). length (up_to 92 l)) (take_all (length s - i) (drop i s) (simp length-drop (omega arith))) in
-    let within : c.loop-manner.i + c.find_byte-k.result ≤ length c.args.s.now = stretch_within c.args.manner c.args.s.now c.loop-manner.i c.find_byte-k.result found (omega arith) in
-    let coded : escape_at c.args.manner (drop (c.loop-manner.i + c.find_byte-k.result + 1) c.args.s.now)
-    ≡ some (record { stands = encoding c.in-Code.c; takes = c.in-Code.t }) = sym c.escape_at-e.ensures.0 ∙ ap escape_of c.in-Code.is in
-    let ends : (c.loop-manner.i + c.find_byte-k.result + 1 + c.in-Code.t
-    ≤ length c.args.s.now)
-    × (length (encoding c.in-Code.c) ≤ 1 + c.in-Code.t) = escape_within c.args.manner c.args.s.now (c.loop-manner.i + c.find_byte-k.result + 1) _ (omega (arith, within)) coded in
-    omega (arith, ends, c.code_len-n.ensures)
+pub slice_bounds-rest-count : goal.slice_bounds-rest-count
+slice_bounds-rest-count c = (ends (goal.at.slice_bounds-rest-count c).In_ok-code).0
 
-pub overflow_add-i : goal.overflow_add-i
-overflow_add-i c =
-    let found : c.find_byte-k.result ≡ length (up_to 92 (drop c.loop-manner.i c.args.s.now)) = let s = c.args.s.now in
-    let i = c.loop-manner.i in
-    c.find_byte-k.ensures ∙ ap (λ (l : Bytes). length (up_to 92 l)) (take_all (length s - i) (drop i s) (simp length-drop (omega arith))) in
-    let within : c.loop-manner.i + c.find_byte-k.result ≤ length c.args.s.now = stretch_within c.args.manner c.args.s.now c.loop-manner.i c.find_byte-k.result found (omega arith) in
-    let coded : escape_at c.args.manner (drop (c.loop-manner.i + c.find_byte-k.result + 1) c.args.s.now)
-    ≡ some (record { stands = encoding c.in-Code.c; takes = c.in-Code.t }) = sym c.escape_at-e.ensures.0 ∙ ap escape_of c.in-Code.is in
-    let ends : (c.loop-manner.i + c.find_byte-k.result + 1 + c.in-Code.t
-    ≤ length c.args.s.now)
-    × (length (encoding c.in-Code.c) ≤ 1 + c.in-Code.t) = escape_within c.args.manner c.args.s.now (c.loop-manner.i + c.find_byte-k.result + 1) _ (omega (arith, within)) coded in
-    omega (arith, ends)
+pub slice_bounds-rest-start : goal.slice_bounds-rest-start
+slice_bounds-rest-start c = (ends (goal.at.slice_bounds-rest-start c).In_ok-code).0
 
-pub overflow_add-i-in-Code : goal.overflow_add-i-in-Code
-overflow_add-i-in-Code c =
-    let found : c.find_byte-k.result ≡ length (up_to 92 (drop c.loop-manner.i c.args.s.now)) = let s = c.args.s.now in
-    let i = c.loop-manner.i in
-    c.find_byte-k.ensures ∙ ap (λ (l : Bytes). length (up_to 92 l)) (take_all (length s - i) (drop i s) (simp length-drop (omega arith))) in
-    let within : c.loop-manner.i + c.find_byte-k.result ≤ length c.args.s.now = stretch_within c.args.manner c.args.s.now c.loop-manner.i c.find_byte-k.result found (omega arith) in
-    let coded : escape_at c.args.manner (drop (c.loop-manner.i + c.find_byte-k.result + 1) c.args.s.now)
-    ≡ some (record { stands = encoding c.in-Code.c; takes = c.in-Code.t }) = sym c.escape_at-e.ensures.0 ∙ ap escape_of c.in-Code.is in
-    let ends : (c.loop-manner.i + c.find_byte-k.result + 1 + c.in-Code.t
-    ≤ length c.args.s.now)
-    × (length (encoding c.in-Code.c) ≤ 1 + c.in-Code.t) = escape_within c.args.manner c.args.s.now (c.loop-manner.i + c.find_byte-k.result + 1) _ (omega (arith, within)) coded in
-    omega (arith, ends)
-
-pub loop-manner-smaller : goal.loop-manner-smaller
-loop-manner-smaller c =
-    let found : c.find_byte-k.result ≡ length (up_to 92 (drop c.loop-manner.i c.args.s.now)) = let s = c.args.s.now in
-    let i = c.loop-manner.i in
-    c.find_byte-k.ensures ∙ ap (λ (l : Bytes). length (up_to 92 l)) (take_all (length s - i) (drop i s) (simp length-drop (omega arith))) in
-    let within : c.loop-manner.i + c.find_byte-k.result ≤ length c.args.s.now = stretch_within c.args.manner c.args.s.now c.loop-manner.i c.find_byte-k.result found (omega arith) in
-    let coded : escape_at c.args.manner (drop (c.loop-manner.i + c.find_byte-k.result + 1) c.args.s.now)
-    ≡ some (record { stands = encoding c.in-Code.c; takes = c.in-Code.t }) = sym c.escape_at-e.ensures.0 ∙ ap escape_of c.in-Code.is in
-    let ends : (c.loop-manner.i + c.find_byte-k.result + 1 + c.in-Code.t
-    ≤ length c.args.s.now)
-    × (length (encoding c.in-Code.c) ≤ 1 + c.in-Code.t) = escape_within c.args.manner c.args.s.now (c.loop-manner.i + c.find_byte-k.result + 1) _ (omega (arith, within)) coded in
-    omega (arith, ends)
-
-pub loop-manner-preserved : goal.loop-manner-preserved
-loop-manner-preserved c =
-    let found : c.find_byte-k.result ≡ length (up_to 92 (drop c.loop-manner.i c.args.s.now)) = let s = c.args.s.now in
-    let i = c.loop-manner.i in
-    c.find_byte-k.ensures ∙ ap (λ (l : Bytes). length (up_to 92 l)) (take_all (length s - i) (drop i s) (simp length-drop (omega arith))) in
-    let within : c.loop-manner.i + c.find_byte-k.result ≤ length c.args.s.now = stretch_within c.args.manner c.args.s.now c.loop-manner.i c.find_byte-k.result found (omega arith) in
-    let coded : escape_at c.args.manner (drop (c.loop-manner.i + c.find_byte-k.result + 1) c.args.s.now)
-    ≡ some (record { stands = encoding c.in-Code.c; takes = c.in-Code.t }) = sym c.escape_at-e.ensures.0 ∙ ap escape_of c.in-Code.is in
-    let ends : (c.loop-manner.i + c.find_byte-k.result + 1 + c.in-Code.t
-    ≤ length c.args.s.now)
-    × (length (encoding c.in-Code.c) ≤ 1 + c.in-Code.t) = escape_within c.args.manner c.args.s.now (c.loop-manner.i + c.find_byte-k.result + 1) _ (omega (arith, within)) coded in
-    let s = c.args.s.now in
-    let l = c.loop-manner in
-    let k = c.find_byte-k.result in
-    let w = l.invariant.2 in
-    let g = c.in-Code.c in
-    let a = stretch_length s l.i k w within in
-    let b = ends in (
-      b.0,
-      omega (arith, c.code_len-n.ensures),
-      (w ++ take k (drop l.i s)) ++ encoding g,
-      read_escape c.args.manner s l.i k found w l.invariant.3 (omega arith) _ coded,
-      length-append (w ++ take k (drop l.i s)) (encoding g) ∙ omega (arith, l.invariant.4, c.code_len-n.ensures),
+pub loop-found-preserved : goal.loop-found-preserved
+loop-found-preserved c =
+    let e = ends (goal.at.loop-found-preserved c).In_ok-code in (
+      simp (length-take, length-drop) (omega (arith, simp (length-take, length-drop) at e.0, e.1)),
+      let at = (goal.at.loop-found-preserved c).After-split_at in
+          read_escape (read at) (turn at) (omega arith) _ refl _ (sym c.in_ok-code.ensures) _ c.code_len-n.ensures,
     )

@@ -1,5 +1,5 @@
 -- `utf8::past_chars` meets its contract. The invariant: the characters from the place reached on end where those from the first
--- place on do; a character more is chars-more, and none where UTF-8 ends is chars-ill.
+-- place on do; a character more is `chars_more`, and none where UTF-8 ends is `chars_ill`.
 -- Assumes nothing.
 use mathlib.Core.Path.{refl, sym, ◌∙◌}
 use native.Mathlib.Omega.{arith}
@@ -14,19 +14,19 @@ pub returns-then-n-eq0 : goal.returns-then-n-eq0
 returns-then-n-eq0 c =
     let a = c.args in
     let loop = c.loop-at in
-    sym (loop.invariant.1 ∙ chars_ill a.s.now loop.at a.stop (omega arith) (sym c.char_len_in-n.ensures ∙ c.if-n-eq0.true))
+    sym (loop.invariant.1 ∙ chars_ill a.s.now loop.at a.stop (omega arith) (sym c.char_len-n.ensures ∙ c.if-n-eq0.true))
 
 pub overflow_add-at : goal.overflow_add-at
-overflow_add-at c = omega (arith, (char_step c.args.s.now c.loop-at.at c.char_len_in-n.result c.char_len_in-n.ensures c.if-n-eq0.false).inside)
+overflow_add-at c = omega (arith, (char_step c.args.s.now c.loop-at.at c.char_len-n.result c.char_len-n.ensures c.if-n-eq0.false).inside)
 
 pub loop-at-smaller : goal.loop-at-smaller
-loop-at-smaller c = omega (arith, (char_step c.args.s.now c.loop-at.at c.char_len_in-n.result c.char_len_in-n.ensures c.if-n-eq0.false).inside)
+loop-at-smaller c = omega (arith, (char_step c.args.s.now c.loop-at.at c.char_len-n.result c.char_len-n.ensures c.if-n-eq0.false).inside)
 
 pub loop-at-preserved : goal.loop-at-preserved
 loop-at-preserved c =
     let a = c.args in
     let loop = c.loop-at in
-    let n = c.char_len_in-n in (
+    let n = c.char_len-n in (
       (char_step a.s.now loop.at n.result n.ensures c.if-n-eq0.false).inside,
       loop.invariant.1 ∙ chars_more a.s.now loop.at a.stop n.result (omega arith) n.ensures c.if-n-eq0.false,
     )

@@ -1,5 +1,5 @@
 -- `utf8::utf8_end` meets its contract. The invariant: UTF-8 ends, from the place reached on, where it ends from the first place
--- on. A turn's laws are those of Parts.antt.
+-- on. A turn's laws are those of CharsEnd.antt.
 -- Assumes nothing.
 use mathlib.Core.Path.{refl, sym, ◌∙◌}
 use native.Mathlib.Omega.{arith}
@@ -23,7 +23,7 @@ pub past_part-end-requires : goal.past_part-end-requires
 past_part-end-requires c =
     let run = c.past_blocks-run in
     let p = blocks_end_passed c.args.s.now c.loop-at.at run.result run.ensures (omega arith) in
-    (refl, omega (arith, c.block_end-stop.ensures, p.inside), omega (arith, c.block_end-stop.ensures))
+    (omega (arith, c.block_end-stop.ensures, p.inside), omega (arith, c.block_end-stop.ensures))
 
 pub returns-then-end-stop : goal.returns-then-end-stop
 returns-then-end-stop c =

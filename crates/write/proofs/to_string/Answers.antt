@@ -40,8 +40,7 @@ returns-then-out-n c =
     let holds : message_holds c.args.m c.args.head.now ≡ true = sym c.message_holds.ensures ∙ c.if-not-message_holds.false in
     let fits : c.args.m.bodylen ≤ length c.args.body.now = omega arith in
     let args = c.args in
-    let all = wrote_full args.m args.head.now args.body.now args.out.now holds fits c.text_len-n.result c.text_len-n.ensures
-    (omega arith) (omega (arith, c.text_len-n.type_inv)) in
+    let all = wrote_full args.m args.head.now args.body.now args.out.now holds fits c.text_len-n.result c.text_len-n.ensures (omega arith) in
     record { wrote = all.0; length = all.1 }
 
 pub write_held-requires : goal.write_held-requires

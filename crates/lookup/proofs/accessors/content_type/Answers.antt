@@ -1,20 +1,17 @@
 -- `lookup::accessors::content_type` meets its contract. Assumes nothing.
 use mathlib.Core.Path.{sym, ◌∙◌}
-use native.Mathlib.Omega.{arith}
-use Rattle.lookup.proofs.TypeAndBody.{no_type, type_within, type_found}
+use lib.Seq.{length-take-le}
+use Rattle.lookup.proofs.TypeAndBody.{no_type, type_within, type_is}
 use Rattle.lookup.proofs.accessors.content_type.Goals as goal
 
 pub returns-then-not-message_holds : goal.returns-then-not-message_holds
 returns-then-not-message_holds c =
-    let args = c.args in
-    no_type args.m args.head.now (sym c.message_holds.ensures ∙ c.if-not-message_holds.true) c.absent.ensures
+    no_type c.args.m c.args.head.now (sym c.message_holds.ensures ∙ c.if-not-message_holds.true)
 
-pub part-requires : goal.part-requires
-part-requires c =
+pub slice_bounds-result-end : goal.slice_bounds-result-end
+slice_bounds-result-end c =
     let args = c.args in
-    (omega arith, type_within args.m args.head.now (sym c.message_holds.ensures ∙ c.if-not-message_holds.false))
+    sym (length-take-le args.m.typelen args.head.now (type_within args.m args.head.now (sym c.message_holds.ensures ∙ c.if-not-message_holds.false)))
 
 pub returns : goal.returns
-returns c =
-    let args = c.args in
-    type_found args.m args.head.now (sym c.message_holds.ensures ∙ c.if-not-message_holds.false) c.part.ensures
+returns c = type_is c.args.m c.args.head.now (sym c.message_holds.ensures ∙ c.if-not-message_holds.false)

@@ -3,12 +3,10 @@ use mathlib.Core.Path.{sym, ◌∙◌}
 use Rattle.lookup.proofs.Counting.{none_headers, headers_counted}
 use Rattle.lookup.proofs.counts.count_headers.Goals as goal
 
-pub returns-then-not-message_holds : goal.returns-then-not-message_holds
-returns-then-not-message_holds c =
-    let args = c.args in
-    none_headers args.m args.head.now (sym c.message_holds.ensures ∙ c.if-not-message_holds.true)
+pub returns-then-message_holds : goal.returns-then-message_holds
+returns-then-message_holds c =
+    headers_counted c.args.m c.args.head.now (sym c.message_holds.ensures ∙ c.if-message_holds.true)
 
-pub returns : goal.returns
-returns c =
-    let args = c.args in
-    headers_counted args.m args.head.now (sym c.message_holds.ensures ∙ c.if-not-message_holds.false)
+pub returns-else-message_holds : goal.returns-else-message_holds
+returns-else-message_holds c =
+    none_headers c.args.m c.args.head.now (sym c.message_holds.ensures ∙ c.if-message_holds.false)

@@ -21,17 +21,17 @@ overflow_add-to c =
     let args = c.args in
     omega (arith, used_within args.m args.head.now (holds (goal.at.overflow_add-to c).Else-not-message_holds))
 
-pub slice_bounds-count_all-end : goal.slice_bounds-count_all-end
-slice_bounds-count_all-end c =
+pub slice_bounds-headers-end : goal.slice_bounds-headers-end
+slice_bounds-headers-end c =
     let args = c.args in
-    omega (arith, used_within args.m args.head.now (holds (goal.at.slice_bounds-count_all-end c).Else-not-message_holds))
+    omega (arith, used_within args.m args.head.now (holds (goal.at.slice_bounds-headers-end c).Else-not-message_holds))
 
-pub count_all-requires : goal.count_all-requires
-count_all-requires c =
+pub count_params-requires : goal.count_params-requires
+count_params-requires c =
     let args = c.args in
-    (headers_in_order args.m args.head.now (holds (goal.at.count_all-requires c).Else-not-message_holds), headers_few args.m args.head.now (holds (goal.at.count_all-requires c).Else-not-message_holds))
+    (headers_in_order args.m args.head.now (holds (goal.at.count_params-requires c).Else-not-message_holds), headers_few args.m args.head.now (holds (goal.at.count_params-requires c).Else-not-message_holds))
 
 pub returns : goal.returns
 returns c =
     let args = c.args in
-    params_counted args.m args.head.now (holds (goal.at.returns c).Else-not-message_holds) c.count_all.result c.count_all.ensures
+    params_counted args.m args.head.now (holds (goal.at.returns c).Else-not-message_holds) c.count_params.result c.count_params.ensures

@@ -4,7 +4,6 @@ use Prim.Native.Nat.{◌<◌}
 use native.Mathlib.Omega.{arith}
 use lib.ListN.{length}
 use lib.Seq.{length-take-le}
-use borrow.Author.Rules.{rules}
 use Rattle.format.specs.Bytes.{less_sign}
 use Rattle.octets.proofs.Find.{found_within}
 use Rattle.lookup_part.proofs.AddressSigns.{without_sign, without_quote}
@@ -23,6 +22,3 @@ pub returns-then-find_byte-first : goal.returns-then-find_byte-first
 returns-then-find_byte-first c =
     let more : c.find_byte-first.result < length c.args.value.now = omega (arith, c.if-first-value.false, found_within less_sign c.args.value.now c.find_byte-first.result c.find_byte-first.ensures) in
     without_quote c.args.value.now c.find_byte-first.result c.find_byte-first.ensures more c.find_byte.result c.find_byte.ensures c.if-find_byte-first.true
-
-pub returns : goal.returns
-returns c = search rules

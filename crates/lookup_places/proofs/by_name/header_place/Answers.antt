@@ -10,7 +10,7 @@ use Rattle.lookup_named.proofs.Grouping.{named_within}
 use Rattle.lookup_places.proofs.EntryPlaces.{passed_within}
 use Rattle.lookup_places.proofs.NamedSpots.{no_message, no_name, group_shaped, too_few, nth_found}
 use Rattle.lookup_places.proofs.by_name.header_place.Goals as goal
-use Rattle.lookup_places.proofs.by_name.header_place.Goals.{Else-not-message_holds, Else-not-is_utf8, After-headers_of-g}
+use Rattle.lookup_places.proofs.by_name.header_place.Goals.{Else-not-message_holds, Else-not-is_utf8, After-headers_of-g, then-not-message_holds-via-then-not-message_holds, then-not-message_holds-via-else-not-message_holds+then-not-is_utf8}
 
 -- a message is held, and the name is UTF-8
 holds : (c : Else-not-message_holds) → message_holds c.args.m c.args.head.now ≡ true
@@ -28,15 +28,10 @@ within c =
 pub returns-then-not-message_holds : goal.returns-then-not-message_holds
 returns-then-not-message_holds c =
     let args = c.args in
-    no_message args.m args.head.now args.name.now args.n (sym c.message_holds.ensures ∙ c.if-not-message_holds.true)
-
-pub returns-then-not-is_utf8 : goal.returns-then-not-is_utf8
-returns-then-not-is_utf8 c =
-    let args = c.args in
-    λ o _. no_name args.m args.head.now args.name.now args.n (sym c.is_utf8.ensures ∙ c.if-not-is_utf8.true) o
-
-pub headers_of-g-requires : goal.headers_of-g-requires
-headers_of-g-requires c = holds (goal.at.headers_of-g-requires c).Else-not-message_holds
+    elim c.then-not-message_holds.branch [
+      | then-not-message_holds-via-then-not-message_holds w ↦ no_message args.m args.head.now args.name.now args.n (sym c.message_holds.ensures ∙ w.if-not-message_holds.true)
+      | then-not-message_holds-via-else-not-message_holds+then-not-is_utf8 w ↦ λ o _. no_name args.m args.head.now args.name.now args.n (sym w.is_utf8.ensures ∙ w.if-not-is_utf8.true) o
+    ]
 
 pub returns-then-g-n : goal.returns-then-g-n
 returns-then-g-n c =

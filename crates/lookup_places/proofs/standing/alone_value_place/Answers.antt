@@ -3,12 +3,9 @@ use mathlib.Core.Path.{sym, ◌∙◌}
 use Rattle.lookup_places.proofs.There.{no_value, value_there}
 use Rattle.lookup_places.proofs.standing.alone_value_place.Goals as goal
 
-pub returns-then-not-header_holds : goal.returns-then-not-header_holds
-returns-then-not-header_holds c =
-    let args = c.args in
-    no_value args.h args.store.now (sym c.header_holds.ensures ∙ c.if-not-header_holds.true)
+pub returns-then-header_holds : goal.returns-then-header_holds
+returns-then-header_holds c =
+    rw c.at.ensures (value_there c.args.h c.args.store.now (sym c.header_holds.ensures ∙ c.if-header_holds.true))
 
-pub returns : goal.returns
-returns c =
-    let args = c.args in
-    value_there args.h args.store.now (sym c.header_holds.ensures ∙ c.if-not-header_holds.false)
+pub returns-else-header_holds : goal.returns-else-header_holds
+returns-else-header_holds c = no_value c.args.h c.args.store.now (sym c.header_holds.ensures ∙ c.if-header_holds.false)

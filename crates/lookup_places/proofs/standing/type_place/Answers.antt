@@ -3,12 +3,9 @@ use mathlib.Core.Path.{sym, ◌∙◌}
 use Rattle.lookup_places.proofs.There.{no_type, type_there}
 use Rattle.lookup_places.proofs.standing.type_place.Goals as goal
 
-pub returns-then-not-message_holds : goal.returns-then-not-message_holds
-returns-then-not-message_holds c =
-    let args = c.args in
-    no_type args.m args.head.now (sym c.message_holds.ensures ∙ c.if-not-message_holds.true)
+pub returns-then-message_holds : goal.returns-then-message_holds
+returns-then-message_holds c =
+    rw c.at.ensures (type_there c.args.m c.args.head.now (sym c.message_holds.ensures ∙ c.if-message_holds.true))
 
-pub returns : goal.returns
-returns c =
-    let args = c.args in
-    type_there args.m args.head.now (sym c.message_holds.ensures ∙ c.if-not-message_holds.false)
+pub returns-else-message_holds : goal.returns-else-message_holds
+returns-else-message_holds c = no_type c.args.m c.args.head.now (sym c.message_holds.ensures ∙ c.if-message_holds.false)

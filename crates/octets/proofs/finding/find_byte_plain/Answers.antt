@@ -1,22 +1,14 @@
--- `octets::finding::find_byte_plain` meets its contract. The invariant: the place is i and what is found behind i. Assumes nothing.
-use native.Mathlib.Omega.{arith}
-use Rattle.octets.proofs.Find.{up_to_found, up_to_other, up_to_end}
+use mathlib.Core.Path.{◌∙◌}
+use borrow.Author.Rules.{rules}
+use borrow.Author.Tests.{tests}
+use Rattle.std.proofs.lemmas.Iterator.{YieldsList-from_slice}
+use Rattle.std.proofs.lemmas.Iterator.Search.{position_from_yields_List}
+use Rattle.std.specs.Prelude.{nat_eq}
+use Rattle.octets.proofs.Find.{up_to_found_at}
 use Rattle.octets.proofs.finding.find_byte_plain.Goals as goal
-
-pub loop-i-init : goal.loop-i-init
-loop-i-init c = omega arith
-
-pub returns-then-s-i : goal.returns-then-s-i
-returns-then-s-i c =
-    let args = c.args in
-    omega (arith, up_to_found args.c args.s.now c.loop-i.i (omega arith) c.if-s-i.true)
-
-pub loop-i-preserved : goal.loop-i-preserved
-loop-i-preserved c =
-    let args = c.args in
-    omega (arith, up_to_other args.c args.s.now c.loop-i.i (omega arith) c.if-s-i.false)
 
 pub returns : goal.returns
 returns c =
-    let args = c.args in
-    omega (arith, up_to_end args.c args.s.now c.loop-i.i (omega arith))
+    c.unwrap_or.ensures
+    ∙ up_to_found_at c.args.c c.args.s.now c.position.result
+    (position_from_yields_List (λ b. nat_eq b c.args.c) _ _ _ c.position.ensures.ran (YieldsList-from_slice c.args.s.now cc) (λ x b q k. search (rules, tests)))

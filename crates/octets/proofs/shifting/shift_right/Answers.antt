@@ -10,18 +10,6 @@ loop-i-init c =
     let args = c.args in
     (omega arith, shifted_none args.from args.to args.n args.s.now, refl)
 
-pub overflow_add-from : goal.overflow_add-from
-overflow_add-from c = omega arith
-
-pub overflow_add-to : goal.overflow_add-to
-overflow_add-to c = omega arith
-
-pub shift_part-requires : goal.shift_part-requires
-shift_part-requires c = omega arith
-
-pub loop-i-smaller : goal.loop-i-smaller
-loop-i-smaller c = omega arith
-
 pub loop-i-preserved : goal.loop-i-preserved
 loop-i-preserved c =
     let args = c.args in
@@ -30,9 +18,6 @@ loop-i-preserved c =
       shifted_right args.from args.to args.n (i - 32) 32 i (args.from + (i - 32)) (args.to + (i - 32)) args.s.now c.loop-i.s _ (omega arith) (omega arith) (omega arith) (omega arith) refl refl c.loop-i.invariant.1 c.shift_part.ensures,
       omega arith,
     )
-
-pub shift_part-requires-2 : goal.shift_part-requires-2
-shift_part-requires-2 c = omega arith
 
 pub returns : goal.returns
 returns c =

@@ -6,9 +6,9 @@ use Rattle.sections.specs.Cuts.{line_end_for}
 use Rattle.read.proofs.LinesLoop.{SoFar}
 use Rattle.read.proofs.section_lines.read_contents.Given as goal
 
-abbrev pub invariant-loop-line : goal.invariant-loop-line
-invariant-loop-line l =
+abbrev pub invariant-loop-so_far : goal.invariant-loop-so_far
+invariant-loop-so_far l =
     SoFar (read_content_line (lengths (head_lent l.initial.so_far l.initial.head))) (line_end_for l.crlf) l.section l.initial.so_far l.initial.head l.at l.so_far l.head
 
-abbrev pub decreases-loop-line : goal.decreases-loop-line
-decreases-loop-line l = length l.section - l.at
+abbrev pub decreases-loop-so_far : goal.decreases-loop-so_far
+decreases-loop-so_far l = length l.section - l.at

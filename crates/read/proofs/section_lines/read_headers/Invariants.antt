@@ -8,9 +8,9 @@ use Rattle.sections.specs.Cuts.{line_end_for}
 use Rattle.read.proofs.LinesLoop.{SoFar}
 use Rattle.read.proofs.section_lines.read_headers.Given as goal
 
-abbrev pub invariant-loop-manner : goal.invariant-loop-manner
-invariant-loop-manner l =
+abbrev pub invariant-loop-so_far : goal.invariant-loop-so_far
+invariant-loop-so_far l =
     (SoFar (read_header_line (line_reader l.manner) (lengths (head_lent l.initial.so_far l.initial.head))) (line_end_for l.crlf) l.section l.initial.so_far l.initial.head l.at l.so_far l.head) × (length l.params ≡ length l.initial.params)
 
-abbrev pub decreases-loop-manner : goal.decreases-loop-manner
-decreases-loop-manner l = length l.section - l.at
+abbrev pub decreases-loop-so_far : goal.decreases-loop-so_far
+decreases-loop-so_far l = length l.section - l.at

@@ -1,77 +1,43 @@
--- `read_header_line::params::read_param_parts` meets its contract. The invariant: the room holds ps, and the parts from at on read behind ps are all parts read
--- behind none. Assumes nothing.
-use mathlib.Core.Path.{◌≡◌, refl, ap, ◌∙◌}
+-- `read_header_line::params::read_param_parts` meets its contract. Assumes nothing.
+use mathlib.Core.Path.{refl}
 use mathlib.Core.List.{[]}
-use Prim.Native.Nat.{ℕ, ◌+◌, ◌-◌, ◌≤◌}
 use native.Mathlib.Omega.{arith}
-use lib.ListN.{length, take, drop, length-drop}
-use lib.Seq.{take_all}
-use Rattle.format.specs.Bytes.{Bytes, semicolon, up_to}
-use Rattle.format.specs.Characters.{is_utf8}
 use Rattle.read_header_line.specs.HeaderLine.{param_reader}
-use Rattle.read_header_line.proofs.ParamTurns.{blank_stands, part_within, part_utf8, rest_utf8, refused_there, ends_there, goes_on}
+use Rattle.octets.proofs.Find.{found_within}
+use Rattle.read_header_line.proofs.Yielding.{given}
+use Rattle.read_header_line.proofs.ParamTurns.{Turn, blank_stands, part_utf8, rest_utf8, refused_there, ends_there, goes_on}
 use Rattle.read_header_line.proofs.params.read_param_parts.Goals as goal
-use Rattle.read_header_line.proofs.params.read_param_parts.Goals.{After-find_byte-n}
+use Rattle.read_header_line.proofs.params.read_param_parts.Goals.{After-split_at}
 
--- the part before it
-part_is : (s : Bytes) (at k : ℕ) → take (at + k - at) (drop at s) ≡ take k (drop at s)
-part_is s at k =
-    let e : at + k - at ≡ k = omega arith in
-    ap (λ (n : ℕ). take n (drop at s)) e
+pub loop-h-init : goal.loop-h-init
+loop-h-init c = rw c.none_read-h.ensures (refl, c.requires.text, [], blank_stands c.args.room.now _ c.copy_at.ensures, refl)
 
-pub loop-manner-init : goal.loop-manner-init
-loop-manner-init c =
-    (omega arith, refl, c.requires.text, [], blank_stands c.args.room.now _ c.copy_at.ensures, refl)
+pub split_at-requires : goal.split_at-requires
+split_at-requires c = omega (arith, found_within 59 c.loop-h.rest.now c.find_byte.result c.find_byte.ensures)
 
--- the next `;`
-found : (c : After-find_byte-n) → c.find_byte-n.result ≡ length (up_to semicolon (drop c.loop-manner.at c.args.parts.now))
-found c =
-    let parts = c.args.parts.now in
-    let at = c.loop-manner.at in
-    c.find_byte-n.ensures ∙ ap (λ (l : Bytes). length (up_to semicolon l)) (take_all (length parts - at) (drop at parts) (simp length-drop (omega arith)))
+turn : (c : After-split_at) → Turn c.loop-h.rest.now c.split_at.result.0.now c.split_at.result.1.now
+turn c = record { k = c.find_byte.result; found = c.find_byte.ensures; front = c.split_at.ensures.front; back = c.split_at.ensures.back }
 
-within : (c : After-find_byte-n) → c.loop-manner.at + c.find_byte-n.result ≤ length c.args.parts.now
-within c = part_within c.args.parts.now c.loop-manner.at c.find_byte-n.result (found c) (omega arith)
+pub read_param-requires : goal.read_param-requires
+read_param-requires c = record {
+  standing = (c.loop-h.invariant.2, c.loop-h.invariant.3);
+  enough = omega (arith, c.loop-h.invariant.0);
+  text = part_utf8 (turn (goal.at.read_param-requires c).After-split_at) c.loop-h.invariant.1;
+}
 
-pub overflow_add-end : goal.overflow_add-end
-overflow_add-end c = omega (arith, within (goal.at.overflow_add-end c).After-find_byte-n)
+pub returns-in_err-h : goal.returns-in_err-h
+returns-in_err-h c =
+    let i = c.loop-h.invariant in
+    refused_there (turn (goal.at.returns-in_err-h c).After-split_at) (param_reader c.args.manner) i.2 _ i.4 (c.in_err-h.ensures i.2 i.3) _ c.from_residual.ensures.1
 
-pub slice_bounds-read_param-end : goal.slice_bounds-read_param-end
-slice_bounds-read_param-end c = omega (arith, within (goal.at.slice_bounds-read_param-end c).After-find_byte-n)
+pub returns-in_default : goal.returns-in_default
+returns-in_default c =
+    let i = c.loop-h.invariant in
+    ends_there (turn (goal.at.returns-in_default c).After-split_at) (param_reader c.args.manner) i.2 _ i.4 (omega arith) (c.in_ok-h.ensures i.2 i.3)
 
-pub read_param-done-requires : goal.read_param-done-requires
-read_param-done-requires c =
-    let parts = c.args.parts.now in
-    let l = c.loop-manner in
-    let k = c.find_byte-n.result in
-    record { standing = (l.invariant.3, l.invariant.4); enough = omega arith; text = ap is_utf8 (part_is parts l.at k) ∙ part_utf8 parts l.at k (found (goal.at.read_param-done-requires c).After-find_byte-n) l.invariant.2 }
-
-pub returns-then-done-ne0 : goal.returns-then-done-ne0
-returns-then-done-ne0 c =
-    let parts = c.args.parts.now in
-    let l = c.loop-manner in
-    let k = c.find_byte-n.result in
-    refused_there parts l.at k (found (goal.at.returns-then-done-ne0 c).After-find_byte-n) (param_reader c.args.manner) l.invariant.3 _ l.invariant.5 (part_is parts l.at k) _ _
-    (c.read_param-done.ensures l.invariant.3 l.invariant.4) c.if-done-ne0.true
-
-pub returns-then-parts-end : goal.returns-then-parts-end
-returns-then-parts-end c =
-    let parts = c.args.parts.now in
-    let l = c.loop-manner in
-    let k = c.find_byte-n.result in
-    ends_there parts l.at k (found (goal.at.returns-then-parts-end c).After-find_byte-n) (param_reader c.args.manner) l.invariant.3 _ l.invariant.5 (part_is parts l.at k) _ _
-    (c.read_param-done.ensures l.invariant.3 l.invariant.4) (omega arith)
-
-pub loop-manner-smaller : goal.loop-manner-smaller
-loop-manner-smaller c = omega arith
-
-pub loop-manner-preserved : goal.loop-manner-preserved
-loop-manner-preserved c =
-    let at = (goal.at.loop-manner-preserved c).After-find_byte-n in
-    let parts = c.args.parts.now in
-    let l = c.loop-manner in
-    let k = c.find_byte-n.result in
-    let g =
-    goes_on parts l.at k (found at) (param_reader c.args.manner) l.invariant.3 _ l.invariant.5 (part_is parts l.at k) _ _
-    (c.read_param-done.ensures l.invariant.3 l.invariant.4) (omega arith) c.if-done-ne0.false in
-    (omega arith, omega arith, rest_utf8 parts l.at k (found at) l.invariant.2, g.0, g.1, g.2)
+pub loop-h-preserved : goal.loop-h-preserved
+loop-h-preserved c =
+    let i = c.loop-h.invariant in
+    let t = turn (goal.at.loop-h-preserved c).After-split_at in
+    let g = given (c.in_ok-h.ensures i.2 i.3) in
+    (omega arith, rest_utf8 t i.1, g.0, g.2, goes_on t (param_reader c.args.manner) i.2 _ i.4 (omega arith) g.0 g.1)

@@ -15,9 +15,6 @@ use Rattle.read_header_line.proofs.parts.value_of.Goals.{In-Rfc}
 inside : (c : In-Rfc) → c.args.at < length c.args.right.now
 inside c = c.requires.1 c.in-Rfc.is
 
-pub overflow_add-next : goal.overflow_add-next
-overflow_add-next c = omega (arith, inside (goal.at.overflow_add-next c).In-Rfc)
-
 pub slice_bounds-result-count : goal.slice_bounds-result-count
 slice_bounds-result-count c = omega (arith, inside (goal.at.slice_bounds-result-count c).In-Rfc)
 

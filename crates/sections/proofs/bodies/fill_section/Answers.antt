@@ -1,6 +1,5 @@
 -- `sections::bodies::fill_section` meets its contract: what is copied is as long as the part, so it takes its place (`pasted_all`).
 -- Assumes nothing.
--- the part's length, by whether a section stands before
 use mathlib.Core.Path.{◌≡◌, sym, ap, ◌∙◌}
 use mathlib.Core.Bool.{Bool, true, false}
 use Prim.Native.Nat.{◌+◌}
@@ -11,6 +10,7 @@ use Rattle.sections.specs.Body.{led}
 use Rattle.sections.proofs.BodyParts.{led_length, fill_first, fill_led}
 use Rattle.sections.proofs.bodies.fill_section.Goals as goal
 
+-- the part's length, by whether a section stands before
 pub copy_at-requires : goal.copy_at-requires
 copy_at-requires c =
     let size : (ahead : Bool) → c.args.ahead ≡ ahead → length c.args.part.now ≡ length (led ahead c.args.section.now) = λ ahead e. c.requires ∙ ap (λ (b : Bool). length (led b c.args.section.now)) e in

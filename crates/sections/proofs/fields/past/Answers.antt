@@ -1,5 +1,4 @@
 -- `sections::fields::past` meets its contract: the bytes behind the place that `find_byte` gives, none where it is the end. Assumes nothing.
--- the byte was found within the text
 use mathlib.Core.Path.{sym, ◌∙◌}
 use Prim.Native.Nat.{◌+◌, ◌-◌, ◌<◌}
 use native.Mathlib.Omega.{arith}
@@ -19,6 +18,7 @@ returns-then-end-s c =
     let all = as_others args.c s (take (length s - end) (drop end s)) (rest_is s end ∙ none ∙ sym past_none) in
     record { behind = all.0; others = all.1 }
 
+-- the byte was found within the text
 pub overflow_add-next : goal.overflow_add-next
 overflow_add-next c =
     let inside : c.find_byte-end.result < length c.args.s.now = let args = c.args in

@@ -1,10 +1,11 @@
-use Prim.Native.Nat.{◌-◌}
-use Rattle.store_entries.specs.Passing.{passed_over}
-use Rattle.store_entries.proofs.EntryWalk.{Walk}
+use mathlib.Core.Bool.{Bool}
+use Rattle.format.specs.Bytes.{Bytes}
+use Rattle.store_entries.specs.Passing.{Tests}
+use Rattle.store_entries.proofs.EntryWalk.{First, Walk}
 use Rattle.store_entries.proofs.groups.pass.Given as goal
 
 abbrev pub invariant-loop-many : goal.invariant-loop-many
-invariant-loop-many l = Walk (passed_over l.equal l.name) l.s l.from l.count l.size l.many
-
-abbrev pub decreases-loop-many : goal.decreases-loop-many
-decreases-loop-many l = l.count - l.many
+invariant-loop-many g l = record {
+  first : First l.s l.from l.count l.count l.size l.many;
+  walk : (p : Bytes → Bool) → Tests g.F.Fn l.passes p → Walk (λ e. p e.name) l.s l.from l.count l.size l.many;
+}

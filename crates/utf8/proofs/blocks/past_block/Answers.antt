@@ -1,4 +1,4 @@
--- `utf8::blocks::past_block` meets its contract. Each answer is a case of blockEnd.
+-- `utf8::blocks::past_block` meets its contract. Each answer is a case of `block_end`.
 -- Assumes nothing.
 use mathlib.Core.Path.{sym, ◌∙◌}
 use Prim.Native.Nat.{◌+◌, ◌-◌}

@@ -8,49 +8,43 @@ use Rattle.write_parts.proofs.Headed.{headed_start, headed_tail, headed_on}
 use Rattle.write_parts.proofs.Lined.{lined_from, lined_length, lined_room, lined_on, lined_all}
 use Rattle.write_parts.proofs.lines.put_header_lines.Goals as goal
 
-pub loop-i-init : goal.loop-i-init
+pub loop-init : goal.loop-init
 unfolding headers_from
-loop-i-init c =
+loop-init c =
     let hs = headed_start c.args.s.now c.args.count c.requires.0 in
     (hs, lined_from header_from (λ h. ended (header_line h)) refl hs.passing)
 
 pub put_header_line-to-requires : goal.put_header_line-to-requires
 put_header_line-to-requires c =
-    let l = c.loop-i in
+    let l = c.loop in
     let args = c.args in (
-      passing_shaped args.s.now args.count l.from l.i l.invariant.1.passing (omega arith),
-      headed_tail args.s.now args.count l.from l.i l.invariant.0 (omega arith),
+      passing_shaped args.s.now args.count l.from l.counter l.invariant.1.passing (omega arith),
+      headed_tail args.s.now args.count l.from l.counter l.invariant.0 (omega arith),
       lined_room header_from (λ h. ended (header_line h)) l.invariant.1 c.requires.1 (omega arith),
     )
 
 pub entry_len-from-requires : goal.entry_len-from-requires
 entry_len-from-requires c =
-    let l = c.loop-i in
+    let l = c.loop in
     let args = c.args in
-    passing_numbers args.s.now args.count l.from l.i l.invariant.1.passing (omega arith)
+    passing_numbers args.s.now args.count l.from l.counter l.invariant.1.passing (omega arith)
 
 pub overflow_add-from : goal.overflow_add-from
 overflow_add-from c =
-    let l = c.loop-i in
+    let l = c.loop in
     let args = c.args in
-    omega (arith, passing_size args.s.now args.count l.from l.i l.invariant.1.passing (omega arith), c.entry_len-from.ensures.0)
+    omega (arith, passing_size args.s.now args.count l.from l.counter l.invariant.1.passing (omega arith), c.entry_len-from.ensures.0)
 
-pub overflow_add-i : goal.overflow_add-i
-overflow_add-i c = omega arith
-
-pub loop-i-smaller : goal.loop-i-smaller
-loop-i-smaller c = omega arith
-
-pub loop-i-preserved : goal.loop-i-preserved
-loop-i-preserved c =
-    let l = c.loop-i in
+pub loop-preserved : goal.loop-preserved
+loop-preserved c =
+    let l = c.loop in
     rw c.entry_len-from.ensures.0
-    (headed_on c.args.s.now c.args.count l.from l.i l.invariant.0 (omega arith), lined_on header_from (λ h. ended (header_line h)) l.invariant.1 c.requires.1 (omega arith) (c.put_header_line-to.ensures.place, c.put_header_line-to.ensures.bytes))
+    (headed_on c.args.s.now c.args.count l.from l.counter l.invariant.0 (omega arith), lined_on header_from (λ h. ended (header_line h)) l.invariant.1 c.requires.1 (omega arith) (c.put_header_line-to.ensures.place, c.put_header_line-to.ensures.bytes))
 
 pub shape_of-out : goal.shape_of-out
-shape_of-out c = lined_length header_from (λ h. ended (header_line h)) c.loop-i.invariant.1 c.requires.1
+shape_of-out c = lined_length header_from (λ h. ended (header_line h)) c.loop.invariant.1 c.requires.1
 
 pub returns : goal.returns
 returns c =
-    let all = lined_all header_from (λ h. ended (header_line h)) c.loop-i.invariant.1 c.requires.1 (omega arith) in
+    let all = lined_all header_from (λ h. ended (header_line h)) c.loop.invariant.1 c.requires.1 (omega arith) in
     record { place = all.0; bytes = all.1 }

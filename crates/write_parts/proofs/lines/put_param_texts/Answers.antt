@@ -7,46 +7,40 @@ use Rattle.write_parts.proofs.StoreWalk.{passing_shaped, passing_numbers, passin
 use Rattle.write_parts.proofs.Lined.{lined_start, lined_length, lined_room, lined_on, lined_all}
 use Rattle.write_parts.proofs.lines.put_param_texts.Goals as goal
 
-pub loop-i-init : goal.loop-i-init
+pub loop-init : goal.loop-init
 unfolding entries_from
-loop-i-init c =
+loop-init c =
     lined_start entry_from param_text refl c.requires.0
 
 pub put_param_text-to-requires : goal.put_param_text-to-requires
 put_param_text-to-requires c =
-    let l = c.loop-i in
+    let l = c.loop in
     let args = c.args in (
-      passing_shaped args.s.now args.count l.from l.i l.invariant.passing (omega arith),
+      passing_shaped args.s.now args.count l.from l.counter l.invariant.passing (omega arith),
       lined_room entry_from param_text l.invariant c.requires.1 (omega arith),
     )
 
 pub entry_len-from-requires : goal.entry_len-from-requires
 entry_len-from-requires c =
-    let l = c.loop-i in
+    let l = c.loop in
     let args = c.args in
-    passing_numbers args.s.now args.count l.from l.i l.invariant.passing (omega arith)
+    passing_numbers args.s.now args.count l.from l.counter l.invariant.passing (omega arith)
 
 pub overflow_add-from : goal.overflow_add-from
 overflow_add-from c =
-    let l = c.loop-i in
+    let l = c.loop in
     let args = c.args in
-    omega (arith, passing_size args.s.now args.count l.from l.i l.invariant.passing (omega arith), c.entry_len-from.ensures.0)
+    omega (arith, passing_size args.s.now args.count l.from l.counter l.invariant.passing (omega arith), c.entry_len-from.ensures.0)
 
-pub overflow_add-i : goal.overflow_add-i
-overflow_add-i c = omega arith
-
-pub loop-i-smaller : goal.loop-i-smaller
-loop-i-smaller c = omega arith
-
-pub loop-i-preserved : goal.loop-i-preserved
-loop-i-preserved c =
-    let l = c.loop-i in
+pub loop-preserved : goal.loop-preserved
+loop-preserved c =
+    let l = c.loop in
     rw c.entry_len-from.ensures.0 (lined_on entry_from param_text l.invariant c.requires.1 (omega arith) (c.put_param_text-to.ensures.place, c.put_param_text-to.ensures.bytes))
 
 pub shape_of-out : goal.shape_of-out
-shape_of-out c = lined_length entry_from param_text c.loop-i.invariant c.requires.1
+shape_of-out c = lined_length entry_from param_text c.loop.invariant c.requires.1
 
 pub returns : goal.returns
 returns c =
-    let all = lined_all entry_from param_text c.loop-i.invariant c.requires.1 (omega arith) in
+    let all = lined_all entry_from param_text c.loop.invariant c.requires.1 (omega arith) in
     record { place = all.0; bytes = all.1 }

@@ -13,59 +13,53 @@ use Rattle.write_parts.proofs.Headed.{headed_start, headed_fits, headed_tail, he
 use Rattle.write_parts.proofs.measure.headers_len.Invariants.{lines}
 use Rattle.write_parts.proofs.measure.headers_len.Goals as goal
 
-pub loop-i-init : goal.loop-i-init
+pub loop-init : goal.loop-init
 unfolding headers_from
-loop-i-init c =
+loop-init c =
     let s = c.args.s.now in
     let count = c.args.count in
     (headed_start s count c.requires.0, omega (arith, ap (λ (es : List Stored). length (lines es)) (left_start s count)), omega arith)
 
 pub header_len-n-requires : goal.header_len-n-requires
 header_len-n-requires c =
-    let l = c.loop-i in
+    let l = c.loop in
     let args = c.args in
     let s = args.s.now in
     let w = l.invariant.0 in (
-      passing_shaped s args.count l.at l.i w.passing (omega arith),
-      headed_fits s args.count l.at l.i w (omega arith),
-      headed_tail s args.count l.at l.i w (omega arith),
+      passing_shaped s args.count l.at l.counter w.passing (omega arith),
+      headed_fits s args.count l.at l.counter w (omega arith),
+      headed_tail s args.count l.at l.counter w (omega arith),
     )
 
 pub overflow_add-n : goal.overflow_add-n
 overflow_add-n c =
-    omega (arith, c.loop-i.invariant.2, c.requires.1, c.header_len-n.ensures.1)
+    omega (arith, c.loop.invariant.2, c.requires.1, c.header_len-n.ensures.1)
 
 pub entry_len-at-requires : goal.entry_len-at-requires
 entry_len-at-requires c =
-    let l = c.loop-i in
+    let l = c.loop in
     let args = c.args in
-    passing_numbers args.s.now args.count l.at l.i l.invariant.0.passing (omega arith)
+    passing_numbers args.s.now args.count l.at l.counter l.invariant.0.passing (omega arith)
 
 pub overflow_add-at : goal.overflow_add-at
 overflow_add-at c =
-    let l = c.loop-i in
+    let l = c.loop in
     let args = c.args in
-    omega (arith, passing_size args.s.now args.count l.at l.i l.invariant.0.passing (omega arith), c.entry_len-at.ensures.0)
+    omega (arith, passing_size args.s.now args.count l.at l.counter l.invariant.0.passing (omega arith), c.entry_len-at.ensures.0)
 
-pub overflow_add-i : goal.overflow_add-i
-overflow_add-i c = omega arith
-
-pub loop-i-smaller : goal.loop-i-smaller
-loop-i-smaller c = omega arith
-
-pub loop-i-preserved : goal.loop-i-preserved
+pub loop-preserved : goal.loop-preserved
 unfolding texts
-loop-i-preserved c =
-    let l = c.loop-i in
+loop-preserved c =
+    let l = c.loop in
     let args = c.args in
     let s = args.s.now in
     let one = c.header_len-n.ensures in
     let line = ended (header_line (header_from (stored_in (drop l.at s)))) in
-    let rest = lines (left s args.count (l.at + size_in (drop l.at s)) (l.i + 1)) in
-    let next : length (lines (left s args.count l.at l.i)) ≡ length line + length rest =
-    ap (λ (es : List Stored). length (lines es)) (left_next s args.count l.at l.i (omega arith)) ∙ length-append line rest in
+    let rest = lines (left s args.count (l.at + size_in (drop l.at s)) (l.counter + 1)) in
+    let next : length (lines (left s args.count l.at l.counter)) ≡ length line + length rest =
+    ap (λ (es : List Stored). length (lines es)) (left_next s args.count l.at l.counter (omega arith)) ∙ length-append line rest in
     rw c.entry_len-at.ensures.0 (
-      headed_on s args.count l.at l.i l.invariant.0 (omega arith),
+      headed_on s args.count l.at l.counter l.invariant.0 (omega arith),
       omega (arith, l.invariant.1, next, one.0),
       omega (arith, l.invariant.2, one.1),
     )
@@ -73,7 +67,7 @@ loop-i-preserved c =
 pub returns : goal.returns
 unfolding texts
 returns c =
-    let l = c.loop-i in
+    let l = c.loop in
     let args = c.args in
-    let none = ap (λ (es : List Stored). length (lines es)) (left_end args.s.now args.count l.at l.i (omega arith)) in
+    let none = ap (λ (es : List Stored). length (lines es)) (left_end args.s.now args.count l.at l.counter (omega arith)) in
     (omega (arith, l.invariant.1, none), omega (arith, l.invariant.2, l.invariant.0.passing.within, c.requires.1))

@@ -1,5 +1,5 @@
 use mathlib.Core.Path.{◌≡◌}
-use Prim.Native.Nat.{◌+◌, ◌-◌, ◌*◌, ◌≤◌}
+use Prim.Native.Nat.{◌+◌, ◌*◌, ◌≤◌}
 use lib.ListN.{length}
 use mathlib.Core.List.{List, map}
 use Rattle.format.specs.Bytes.{Bytes, texts}
@@ -14,9 +14,6 @@ use Rattle.write_parts.proofs.measure.headers_len.Given as goal
 abbrev pub lines : List Stored → Bytes
 lines es = texts (λ h. ended (header_line h)) (map header_from es)
 
-abbrev pub invariant-loop-i : goal.invariant-loop-i
-invariant-loop-i l =
-    Headed l.s l.count l.at l.i × (length (texts (λ h. ended (header_line h)) (headers_from l.count l.s)) ≡ l.n + length (lines (left l.s l.count l.at l.i))) × (l.n ≤ 131072 * l.i)
-
-abbrev pub decreases-loop-i : goal.decreases-loop-i
-decreases-loop-i l = l.count - l.i
+abbrev pub invariant-loop : goal.invariant-loop
+invariant-loop l =
+    Headed l.s l.count l.at l.counter × (length (texts (λ h. ended (header_line h)) (headers_from l.count l.s)) ≡ l.n + length (lines (left l.s l.count l.at l.counter))) × (l.n ≤ 131072 * l.counter)
