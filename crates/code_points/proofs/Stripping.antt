@@ -7,14 +7,15 @@ use mathlib.Core.List.{List, [], ◌∷◌, ◌++◌}
 use native.Mathlib.Omega.{arith}
 use lib.ListN.{length, take, drop, get_or, length-drop, take-append-drop}
 use lib.Seq.{drop-cons, drop-length, drop-drop, take-take, length-take-le}
-use Rattle.std.specs.Prelude.{None}
+use Rattle.std.specs.Prelude.{None, MatchOption}
+use Rattle.std.specs.Bool.{then_some}
 use Rattle.std.specs.List.{slice_get}
 use Rattle.std.proofs.lemmas.Option.{none-some, slice_get-get_or}
 use Rattle.format.specs.Bytes.{Bytes}
 use Rattle.format.specs.Characters.{chars, flat, well_formed, last_of, is_white, drop_front, drop_back, trim_by, trim}
 use mathlib.Core.Logic.{⊎_elim}
-use Rattle.format.proofs.Lists.{below, rest_is}
-use Rattle.format.proofs.Characters.Chars.{flat_chars, chars_nil, chars_whole, chars_ascii, ascii_whole}
+use Rattle.format.proofs.Lists.{bcase, below, rest_is}
+use Rattle.format.proofs.Characters.Chars.{flat_chars, chars_nil, chars_whole, chars_ascii, ascii_whole, whole_single}
 use Rattle.format.proofs.Characters.Trim.{back_clear_lem}
 use Rattle.characters.specs.Lengths.{subpart_len}
 use Rattle.characters.proofs.Utf8End.{subpart_chars}
@@ -133,6 +134,33 @@ module _ (p : Bytes → Bool) (whole : (g : Bytes) → p g ≡ true → well_for
           (λ l. tried 2 (omega arith) (omega arith) l (λ n. absurd (omega arith)))
           (λ l. tried 3 (omega arith) (omega arith) l (λ n. absurd (omega arith)))
           g gs e
+
+  -- one byte of 128 or more never passes, and where an ASCII byte stands there no more are tried
+  single_fails : (b : ℕ) → 128 ≤ b → p (b ∷ []) ≡ false
+  single_fails b h = ⊎_elim (λ w. absurd (omega (arith, whole_single b (whole (b ∷ []) w)))) (λ f. f) (bcase (p (b ∷ [])))
+
+  pub front_low : 0 < length u → get_or u 0 0 < 128 → p (take 1 u) ≡ false → NoFront p u
+  front_low h l f = no_front h (λ k a b d m. let e : k ≡ 1 = omega (arith, m l) in ap (λ k. p (take k u)) e ∙ f)
+
+  pub front_high : 0 < length u → 128 ≤ get_or u 0 0 → (2 ≤ length u → p (take 2 u) ≡ false) → (3 ≤ length u → p (take 3 u) ≡ false) → NoFront p u
+  front_high h l b c = record { fails = λ g gs e. cut g gs e }
+    where
+      cut : (g : Bytes) (gs : List Bytes) → chars u ≡ g ∷ gs → p g ≡ false
+      cut g gs e =
+          let f = subpart_chars u h in
+          let k : g ≡ take (subpart_len u) u = cc in
+          ap p k ∙ first_fails p whole short u h (ap p (first_byte u h) ∙ single_fails (get_or u 0 0) l) b c
+
+  pub back_low : 0 < length u → get_or u (length u - 1) 0 < 128 → p (drop (length u - 1) u) ≡ false → NoBack p u
+  back_low h l f = no_back h (λ k a b d m. let e : k ≡ 1 = omega (arith, m l) in ap (λ k. p (drop (length u - k) u)) e ∙ f)
+
+  pub back_high : 0 < length u → 128 ≤ get_or u (length u - 1) 0 → (2 ≤ length u → p (drop (length u - 2) u) ≡ false) → (3 ≤ length u → p (drop (length u - 3) u) ≡ false) → NoBack p u
+  back_high h l b c = record { fails = λ g gs e. last_fails p whole short u (ap p (last_byte u h) ∙ single_fails (get_or u (length u - 1) 0) l) b c g gs e }
+
+-- an answer of n bytes where a test passes
+pub then_some_of : {N : Type 0} (A : ℕ → Type 0) (n : ℕ) (b : Bool) → (b ≡ false → N) → (b ≡ true → A n) → MatchOption (then_some b n) N A
+then_some_of A n true f t = t refl
+then_some_of A n false f t = f refl
 
 -- A text without a byte at its end has no characters.
 pub no_chars : (u : Bytes) (k : ℕ) → k ≤ length u - 1 → slice_get u k ≡ None → chars u ≡ []

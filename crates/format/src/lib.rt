@@ -1,7 +1,7 @@
 // The records that answers are made of, and those that stand for a message and a header in lent stores: numbers only.
 // What they mean is in specs/Refusals.antt and specs/Layout.antt. Two enums are shared by definitions and functions: `Manner`
-// (specs/Escaping.antt) and `Quoting` (specs/LookingUp.antt). This crate has no function of its own; its definitions are
-// document 01, with what document 02 changes.
+// (specs/Escaping.antt) and `Quoting` (specs/LookingUp.antt). The only functions are those of `refusal`, which give a refusal its
+// number; the definitions are document 01, with what document 02 changes.
 
 #![tactic(auto)]
 

@@ -16,10 +16,13 @@ use Rattle.format.specs.Validators.{param_name, param_value}
 use Rattle.format.specs.Message.{Entry, LoneHeader, entry, entry_name, need_entry, put}
 use Rattle.format.specs.Calls.{param_count, set_param, add_param, if_room_alone}
 use Rattle.format.specs.Layout.{HoldsAlone}
-use Rattle.format.specs.Lending.{leaves_header}
+use Rattle.format.specs.Lending.{LentHeader, leaves_header}
+use Rattle.format.specs.declared.Numbers.{Numbers}
 use Rattle.format.specs.declared.CpimHeader.{CpimHeader}
 use Rattle.format.specs.declared.refusal.Refusal.{Refusal}
 use Rattle.format.specs.declared.refusal.Refusal.TheVariants as code
+use Rattle.format.proofs.Steps.{then_passed}
+use Rattle.format.proofs.Answers.{other_fails, then_refused}
 use Rattle.format.proofs.Rulesets.{checks}
 use Rattle.format.proofs.Messages.Parts as valid
 use Rattle.validate.proofs.Chains.{handed_on}
@@ -31,6 +34,24 @@ use Rattle.store_check.proofs.HeldParts.{alone_parts}
 use Rattle.message_edit.proofs.GroupParts.{increasing_ascending, in_place}
 use Rattle.header.specs.Alone.{alone_in, with_params, set_in, DoesAlone}
 
+module _ (l k : LentHeader) (n : Numbers) (x : Check) (o : Out LoneHeader) where
+  -- a check refuses
+  pub does_refused : n ≡ numbers x → (n.number ≡ 0 → ⊥) → k ≡ l → DoesAlone l k n (◌>>◌ x o)
+  unfolding leaves_header numbers
+  does_refused e z s =
+      let r = then_refused x o (other_fails x n e z) in
+      record {
+        answered = e ∙ ap numbers r.1 ∙ sym (ap numbers r.2);
+        left = s ∙ sym (ap (leaves_header l) r.2);
+      }
+
+  -- a check passes
+  pub does_passed : passes x ≡ true → DoesAlone l k n o → DoesAlone l k n (◌>>◌ x o)
+  does_passed h d =
+      let e = sym (then_passed x o h) in
+      record { answered = d.answered ∙ ap numbers e; left = d.left ∙ ap (leaves_header l) e }
+
+-- The same of the results of the code.
 -- A call on a header h has this result and makes this of the store, by the answer o.
 abbrev pub Leaves : CpimHeader → Bytes → Bytes → Result CpimHeader Refusal → Out LoneHeader → Type 0
 Leaves h store after q o = DoesAlone (alone_in h store) (alone_in (result_unwrap_or q h) after) (told q) o

@@ -7,7 +7,7 @@ ghost use Rattle.format.specs.Message.{LoneHeader};
 ghost use Rattle.format.specs.Layout.{layout_entry, HeldAlone};
 ghost use Rattle.format.specs.LookingUp.{alone_value, alone_param};
 ghost use Rattle.format.specs.Told.{given};
-ghost use Rattle.lookup_nth.specs.Listed.{Listed, entry_of};
+ghost use Rattle.lookup_nth.specs.Listed.{Listed};
 ghost use Rattle.lookup.specs.OfHeld.{params_held};
 
 use format::CpimHeader;
@@ -41,7 +41,7 @@ fn params(h: CpimHeader, store: &[u8]) -> Entries<'_>
 
 // The n-th parameter.
 pub fn param(h: CpimHeader, store: &[u8], n: usize) -> Option<Entry<'_>>
-    ensures { (o : Option LoneHeader) → HeldAlone h store.now o → given (option_map entry_of result) ≡ alone_param o n }
+    ensures { (o : Option LoneHeader) → HeldAlone h store.now o → given (option_map (λ e. record { name = e.name.now; value = e.value.now }) result) ≡ alone_param o n }
 {
     params(h, store).nth(n)
 }

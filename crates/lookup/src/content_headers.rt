@@ -8,7 +8,7 @@ ghost use Rattle.format.specs.Layout.{layout_entry, Held};
 ghost use Rattle.format.specs.Lending.{head_lent};
 ghost use Rattle.format.specs.LookingUp.{get_content};
 ghost use Rattle.format.specs.Told.{given};
-ghost use Rattle.lookup_nth.specs.Listed.{Listed, entry_of};
+ghost use Rattle.lookup_nth.specs.Listed.{Listed};
 ghost use Rattle.lookup.specs.OfHeld.{contents_held};
 
 use format::CpimMessage;
@@ -32,7 +32,7 @@ fn contents(m: CpimMessage, head: &[u8]) -> Entries<'_>
 
 // The n-th content header.
 pub fn content(m: CpimMessage, head: &[u8], n: usize) -> Option<Entry<'_>>
-    ensures { (o : Option Message) → Held (head_lent m head.now) o → given (option_map entry_of result) ≡ get_content o n }
+    ensures { (o : Option Message) → Held (head_lent m head.now) o → given (option_map (λ e. record { name = e.name.now; value = e.value.now }) result) ≡ get_content o n }
 {
     contents(m, head).nth(n)
 }

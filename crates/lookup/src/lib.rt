@@ -15,7 +15,6 @@ ghost use Rattle.format.specs.Layout.{Held};
 ghost use Rattle.format.specs.Lending.{head_lent};
 ghost use Rattle.format.specs.LookingUp.{get_header, get_header_value, get_param};
 ghost use Rattle.format.specs.Told.{given};
-ghost use Rattle.lookup_nth.specs.Listed.{entry_of};
 
 use format::CpimMessage;
 use lookup_named::headers_named;
@@ -49,7 +48,7 @@ pub fn get_param<'a>(
     k: usize,
     n: usize,
 ) -> Option<Entry<'a>>
-    ensures { (o : Option Message) → Held (head_lent m head.now) o → given (option_map entry_of result) ≡ get_param o name.now k n }
+    ensures { (o : Option Message) → Held (head_lent m head.now) o → given (option_map (λ e. record { name = e.name.now; value = e.value.now }) result) ≡ get_param o name.now k n }
 {
     let header = headers_named(m, head, name).nth(k)?;
     header.params.nth(n)

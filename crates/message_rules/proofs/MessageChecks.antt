@@ -23,7 +23,7 @@ use Rattle.format.specs.declared.CpimMessage.{CpimMessage}
 use Rattle.format.specs.declared.refusal.Refusal.{Refusal}
 use Rattle.format.proofs.Steps.{then_passed}
 use Rattle.format.proofs.Rulesets.{checks}
-use Rattle.format.proofs.Answers.{over_limit}
+use Rattle.format.proofs.Answers.{other_fails, then_refused, over_limit}
 use Rattle.validate.proofs.Chains.{passed, handed_on}
 use Rattle.validate.proofs.EmptyText.{over_limit as length_over}
 use Rattle.store_splice.specs.Notations.{reads}
@@ -33,6 +33,16 @@ use Rattle.store_splice.proofs.Plain.{plain_value}
 use Rattle.message_edit.specs.Edits.{Does, Spelt}
 
 module _ (l k : Lent) (n : Numbers) (x : Check) (o : Out Message) where
+  -- a check refuses
+  pub does_refused : n ≡ numbers x → (n.number ≡ 0 → ⊥) → k ≡ l → Does l k n (◌>>◌ x o)
+  unfolding leaves numbers
+  does_refused e z s =
+      let r = then_refused x o (other_fails x n e z) in
+      record {
+        answered = e ∙ ap numbers r.1 ∙ sym (ap numbers r.2);
+        left = s ∙ sym (ap (leaves l) r.2);
+      }
+
   -- a check passes
   pub does_passed : passes x ≡ true → Does l k n o → Does l k n (◌>>◌ x o)
   does_passed h d =

@@ -1,15 +1,15 @@
 -- Comparing two texts from the front: the step over one byte of each, and the ends. Assumes nothing.
-use Prim.Native.Nat.{ℕ, ◌+◌, ◌≤◌, ◌<◌}
+use Prim.Native.Nat.{ℕ, ◌+◌, ◌≤◌, ◌<◌, min}
 use mathlib.Core.Path.{◌≡◌, refl, sym, ap, ◌∙◌}
-use mathlib.Core.Bool.{Bool, true, false, ◌&&◌, and-false}
+use mathlib.Core.Bool.{Bool, true, false, ◌&&◌, and-false, or-false}
 use mathlib.Core.List.{[], ◌∷◌, map}
 use mathlib.Core.Logic.{⊎_elim}
 use native.Mathlib.Numerals.{add-one}
 use native.Mathlib.Omega.{arith}
-use lib.Dec.{eqb}
+use lib.Dec.{ltb, eqb}
 use lib.ListN.{length, drop, get_or, drop_of_length-le, get_or-map}
 use lib.Seq.{drop-cons}
-use borrow.Author.Tests.{eq-eqb, ne_eqb}
+use borrow.Author.Tests.{eq-eqb, ne_eqb, lt-ltb, le-ltb}
 use Rattle.std.specs.Char.{to_ascii_lowercase}
 use Rattle.std.specs.Bool.{Decides}
 use Rattle.std.specs.Ordering.{nat_cmp, is_lt}
@@ -19,7 +19,7 @@ use Rattle.std.specs.Prelude.{nat_eq}
 use Rattle.std.proofs.lemmas.Cmp.{same_from_slice_cmp}
 use Rattle.std.proofs.lemmas.Bool.Decides.{nat_tests}
 use Rattle.format.specs.Bytes.{Bytes, same, before, begins, occurs, lower, same_letters}
-use Rattle.format.proofs.Lists.{bcase, clash, same_eq, same_refl}
+use Rattle.format.proofs.Lists.{bcase, below, clash, same_eq, same_refl}
 
 -- ---- begins: p and t from a place on
 
@@ -42,6 +42,36 @@ unfolding begins
 begins_short [] t h = absurd (omega arith)
 begins_short (a ∷ p) [] h = refl
 begins_short (a ∷ p) (b ∷ t) h = rw (begins_short p t (omega arith)) (and-false (eqb a b))
+
+-- ---- same and before, the same way
+
+-- of texts of one length
+pub same_begins : (a b : Bytes) → length a ≡ length b → same a b ≡ begins a b
+unfolding same begins
+same_begins [] [] h = refl
+same_begins [] (b ∷ t) h = absurd (omega arith)
+same_begins (a ∷ s) [] h = absurd (omega arith)
+same_begins (a ∷ s) (b ∷ t) h = ap (λ (x : Bool). eqb a b && x) (same_begins s t (omega arith))
+
+-- at the end of the shorter one
+pub before_ends : (a b : Bytes) (i : ℕ) → i ≡ min (length a) (length b) → before (drop i a) (drop i b) ≡ ltb (length a) (length b)
+unfolding before
+before_ends a b i e =
+    ⊎_elim
+    (λ l. rw (drop_of_length-le a {i = i} (omega arith), drop-cons b i 0 (omega arith), lt-ltb (length a) (length b) l) refl)
+    (λ l. rw (drop_of_length-le b {i = i} (omega arith), le-ltb (length a) (length b) l) refl)
+    (below (length a) (length b))
+
+module _ (a b : Bytes) (i : ℕ) (ha : i < length a) (hb : i < length b) where
+  pub before_differs : (get_or b i 0 ≡ get_or a i 0 → ⊥) → before (drop i a) (drop i b) ≡ ltb (get_or a i 0) (get_or b i 0)
+  unfolding before
+  before_differs h =
+      rw (drop-cons a i 0 ha, drop-cons b i 0 hb, ne_eqb (get_or a i 0) (get_or b i 0) (λ e. h (sym e))) (or-false (ltb (get_or a i 0) (get_or b i 0)))
+
+  pub before_step : get_or b i 0 ≡ get_or a i 0 → before (drop i a) (drop i b) ≡ before (drop (i + 1) a) (drop (i + 1) b)
+  unfolding before
+  before_step e =
+      rw (drop-cons a i 0 ha, drop-cons b i 0 hb, le-ltb (get_or a i 0) (get_or b i 0) (omega arith), eq-eqb (get_or a i 0) (get_or b i 0) (sym e), add-one i) refl
 
 -- ---- what the library's comparisons say
 

@@ -6,8 +6,8 @@ use mathlib.Core.List.{[], ◌∷◌, ◌++◌, append_assoc, append-nil}
 use native.Mathlib.Nat.{add-zero, add_assoc, zero-add, suc-add}
 use native.Mathlib.Numerals.{add-one}
 use native.Mathlib.Omega.{arith}
-use lib.ListN.{length, take, drop, set, length-append, length-take, length-drop, take-append-drop, drop_of_length-le}
-use lib.Seq.{paste, take-length, length-take-le, take_at, drop_at, take-nil, take-append-le, take-take, drop-drop, set_split}
+use lib.ListN.{length, take, drop, get_or, set, length-append, length-take, length-drop, take-append-drop, drop_of_length-le}
+use lib.Seq.{paste, take-length, length-take-le, take_at, drop_at, take-nil, take-append-le, take-take, take-suc, drop-drop, set_split}
 use Rattle.format.specs.Bytes.{Bytes, pasted, over}
 
 -- nothing pasted changes nothing
@@ -62,6 +62,10 @@ module _ (at : ℕ) (s d : Bytes) (within : at ≤ length d) where
 
   pub drop_pasted : drop (at + length s) (pasted at s d) ≡ drop (at + length s) d
   drop_pasted = rw split_pasted (drop_at (take at d ++ s) (drop (at + length s) d) (at + length s) head_length)
+
+  -- what was pasted is read back
+  pub part_pasted : take (length s) (drop at (pasted at s d)) ≡ s
+  part_pasted = sym (drop_take at (length s) (pasted at s d)) ∙ ap (drop at) take_pasted ∙ drop_at (take at d) s at (length-take-le at d within)
 
   -- what stands before the pasted bytes is as it was
   pub take_before : (n : ℕ) → n ≤ at → take n (pasted at s d) ≡ take n d
@@ -122,3 +126,12 @@ stores-six d at a b c e f g h =
       pasted_more at (a ∷ b ∷ c ∷ e ∷ []) d f (omega arith),
     )
     (pasted_more at (a ∷ b ∷ c ∷ e ∷ f ∷ []) d g (omega arith))
+
+-- one more byte of a text, as a loop copies it
+pub pasted_next : (at : ℕ) (s d : Bytes) (i : ℕ) → i < length s → at + i < length d
+    → set (pasted at (take i s) d) (at + i) (get_or s i 0) ≡ pasted at (take (i + 1) s) d
+pasted_next at s d i h k =
+    let e : length (take i s) ≡ i = length-take-le i s (omega arith) in
+    ap (λ (n : ℕ). set (pasted at (take i s) d) (at + n) (get_or s i 0)) (sym e)
+    ∙ pasted_more at (take i s) d (get_or s i 0) (rw e k)
+    ∙ ap (λ (l : Bytes). pasted at l d) (sym (take-suc s i 0 h) ∙ ap (λ (n : ℕ). take n s) (sym (add-one i)))

@@ -12,13 +12,27 @@ pub fn same(a: &[u8], b: &[u8]) -> bool
     a == b
 }
 
-// Strictly before in byte order; a prefix comes first. (`a < b` looks at one byte after another, and takes 50 times as long at 1000 bytes. A loop
-// would be faster only where all of two to seven bytes are the same: 5.8 for 8.4 ns at seven.)
-#[tactic(auto, using(crate::proofs::Comparing::before_ordered))]
+// Strictly before in byte order; a prefix comes first. (`a < b` takes four times as long as the loop at 1000 bytes. `cmp` takes many bytes
+// at a time, but up to 1.9 times as long as the loop where the first eight differ: 5.5 for 2.9 ns where the first does, 10.3 for 6.3 at seven.)
 pub fn before(a: &[u8], b: &[u8]) -> bool
     ensures { result ≡ before a.now b.now }
 {
-    a.cmp(&b).is_lt()
+    let both = a.len().min(b.len());
+    if both == 0 {
+        return a.len() < b.len();
+    }
+    if a[0] != b[0] {
+        return a[0] < b[0];
+    }
+    if 8 <= both && b.starts_with(&a[..8]) {
+        return a.cmp(&b).is_lt();
+    }
+    for i in 1..both {
+        if a[i] != b[i] {
+            return a[i] < b[i];
+        }
+    }
+    a.len() < b.len()
 }
 
 // A to Z become a to z.

@@ -20,6 +20,7 @@ use Rattle.format.specs.Lending.{LentHeader, leaves_header, laid_alone}
 use Rattle.format.specs.Reading.{read_param}
 use Rattle.format.specs.ReadingRfc.{read_param_rfc}
 use Rattle.format.specs.Told.{told, meant, checked}
+use Rattle.format.specs.declared.Numbers.{Numbers}
 use Rattle.format.specs.declared.refusal.Refusal.{Refusal}
 use Rattle.format.specs.declared.CpimHeader.{CpimHeader}
 use Rattle.format.specs.declared.Manner.{Manner}
@@ -118,3 +119,14 @@ module _ (part : Bytes) (ps : List Entry) (lacks : has equals part ≡ false) wh
   unfolding checked read_param_rfc refuse_if ◌>>◌ numbers
   part_refused Source e h = refused_accepted (meant e) tt h
   part_refused Rfc e h = rw lacks (ap numbers (sym h))
+
+-- both at once: the numbers of what meets such a part are the reading's, and where it goes on the room holds the same parameters
+pub part_lacking : (r : Manner) (h : CpimHeader) (store part : Bytes) (ps : List Entry) (n : Numbers) → n ≡ numbers (lacking_by r) → has equals part ≡ false → Standing h store ps
+    → (n ≡ numbers (param_reader r part ps)) × ((qs : List Entry) → param_reader r part ps ≡ accepted qs → Standing h store qs)
+unfolding read_param read_param_rfc refuse_if ◌>>◌ numbers
+part_lacking Source h store part ps n l e s =
+    let same : read_param part ps ≡ accepted ps = rw e refl in
+    (l ∙ sym (ap numbers same), λ qs q. subst (Standing h store) (accepted_same ps qs (sym same ∙ q)) s)
+part_lacking Rfc h store part ps n l e s =
+    let same : read_param_rfc part ps ≡ refused param_lacks_equals = rw e refl in
+    (l ∙ sym (ap numbers same), λ qs q. refused_accepted param_lacks_equals qs (sym same ∙ q))

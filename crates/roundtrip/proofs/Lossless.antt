@@ -212,11 +212,21 @@ module _ (r : Manner) (reading : Bytes → Stores → Out Message)
       let told = says_condition (some k) (message g) in
       ((λ h. back k stores g.within (sym told ∙ h) room), (λ b. told ∙ only k stores g.within b))
 
-module _ {A : Type 0} (lent : Lent) (l : Result A Lost) (b : Bool) (s : b ≡ is_ok l) where
-  pub source_says : ((o : Option Message) → Held lent o → told l ≡ loss_held o)
-      → ((o : Option Message) → Held lent o → b ≡ whole_held o) × ReadsBack lent b
-  source_says e = rw (s, ok_is l) (says_condition Source read reads_back back_only lent (told l) e, says_back Source read reads_back back_only lent (told l) e)
+module _ (lent : Lent) (l : Loss) where
+  pub source_says : ((o : Option Message) → Held lent o → l ≡ loss_held o)
+      → ((o : Option Message) → Held lent o → eqb l.clause 0 ≡ whole_held o) × ReadsBack lent (eqb l.clause 0)
+  source_says e = (says_condition Source read reads_back back_only lent l e, says_back Source read reads_back back_only lent l e)
 
-  pub rfc_says : ((o : Option Message) → Held lent o → told l ≡ loss_held_by Rfc o)
+  pub rfc_says : ((o : Option Message) → Held lent o → l ≡ loss_held_by Rfc o)
+      → ((o : Option Message) → Held lent o → eqb l.clause 0 ≡ whole_held_rfc o) × ReadsBackRfc lent (eqb l.clause 0)
+  rfc_says e = (says_condition Rfc read_rfc reads_back_rfc back_only_rfc lent l e, says_back Rfc read_rfc reads_back_rfc back_only_rfc lent l e)
+
+-- The same of the result of the code, which is Ok exactly where no clause fails.
+module _ {A : Type 0} (lent : Lent) (l : Result A Lost) (b : Bool) (s : b ≡ is_ok l) where
+  pub source_result_says : ((o : Option Message) → Held lent o → told l ≡ loss_held o)
+      → ((o : Option Message) → Held lent o → b ≡ whole_held o) × ReadsBack lent b
+  source_result_says e = rw (s, ok_is l) (source_says lent (told l) e)
+
+  pub rfc_result_says : ((o : Option Message) → Held lent o → told l ≡ loss_held_by Rfc o)
       → ((o : Option Message) → Held lent o → b ≡ whole_held_rfc o) × ReadsBackRfc lent b
-  rfc_says e = rw (s, ok_is l) (says_condition Rfc read_rfc reads_back_rfc back_only_rfc lent (told l) e, says_back Rfc read_rfc reads_back_rfc back_only_rfc lent (told l) e)
+  rfc_result_says e = rw (s, ok_is l) (rfc_says lent (told l) e)

@@ -121,3 +121,8 @@ pub fill_led : (s part : Bytes) → length part ≡ length (led true s) → past
 unfolding led
 fill_led s part e =
     pasted_pasted 0 crlf_crlf_text s part (omega arith) ∙ pasted_all (crlf_crlf_text ++ s) part (sym e)
+
+-- no bytes behind the lead
+pub fill_lead : (s part : Bytes) → length s ≡ 0 → length part ≡ length (led true s) → pasted 0 crlf_crlf_text part ≡ led true s
+fill_lead [] part n e = sym (pasted_nil 4 (pasted 0 crlf_crlf_text part)) ∙ fill_led [] part e
+fill_lead (b ∷ s) part n e = absurd (omega arith)

@@ -6,5 +6,5 @@ use Rattle.format.specs.Bytes.{Bytes}
 use Rattle.sections.specs.Place.{place}
 
 -- f finds the pattern p in any text
-pub record Finds {F : Type 0} (g : Shared F (Bor Bytes × Unit {0}) ℕ) (f : F) (p : Bytes) : Type 0 where
-  pub says : (x : Bor Bytes) (r : ℕ) → g.post f (x, tt) r → r ≡ place p x.now
+pub record Finds {F : Type 0} (g : Shared F (Bor Bytes × (Bor Bytes × Unit {0})) ℕ) (f : F) (p : Bor Bytes) : Type 0 where
+  pub says : (x : Bor Bytes) (r : ℕ) → g.post f (x, (p, tt)) r → r ≡ place p.now x.now

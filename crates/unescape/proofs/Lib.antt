@@ -1,2 +1,3 @@
+pub mod Hex
 pub mod Escapes
 pub mod Stretches

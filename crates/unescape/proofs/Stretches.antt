@@ -10,7 +10,7 @@ use mathlib.Core.Option.{Option, none, some}
 use native.Mathlib.Omega.{arith}
 use lib.Dec.{eqb}
 use lib.ListN.{length, take, drop, length-append, length-drop, take-append-drop, drop_of_length-le}
-use lib.Seq.{take_all}
+use lib.Seq.{drop-drop, take_all}
 use borrow.Author.Tests.{eqb-true, eqb-false, ne_eqb}
 use Rattle.format.specs.Bytes.{Bytes, all, up_to, pasted}
 use Rattle.format.specs.Escaping.{Escape, escape_at, takes_of, in_front, escaped, unescape_from, unescape_by}
@@ -78,8 +78,8 @@ pub record Turn (t p q : Bytes) : Type 0 where
   pub front : p ≡ take k t
   pub back : q ≡ drop k t
 
-pub read_stretch : {r : Manner} {s t p q : Bytes} {n : ℕ} → Read r s n t → Turn t p q → Read r s (n + length p) q
-read_stretch {r} {s} {t} {p} {q} so at = record {
+pub stretch_taken : {r : Manner} {s t p q : Bytes} {n : ℕ} → Read r s n t → Turn t p q → Read r s (n + length p) q
+stretch_taken {r} {s} {t} {p} {q} so at = record {
   bytes = so.bytes ++ p;
   so = so.so ∙ ap (in_front so.bytes) stretch ∙ behind_behind so.bytes p (unescape_by r q);
   long = length-append so.bytes p ∙ ap (λ (m : ℕ). m + length p) so.long;
@@ -119,8 +119,8 @@ module _ {r : Manner} {s t p q : Bytes} {n : ℕ} (so : Read r s n q) (at : Turn
   read_refused h =
       so.so ∙ ap (in_front so.bytes) (escaped_so ∙ read_none (escape_at r b) (unescape_by r (drop (takes_of (escape_at r b)) b)) h)
 
-  pub read_escape : (e : Escape) → escape_at r b ≡ some e → (m : ℕ) → m ≡ length e.stands → Read r s (n + m) (take (length b - e.takes) (drop e.takes b))
-  read_escape e h m l = record {
+  pub escape_taken : (e : Escape) → escape_at r b ≡ some e → (m : ℕ) → m ≡ length e.stands → Read r s (n + m) (take (length b - e.takes) (drop e.takes b))
+  escape_taken e h m l = record {
     bytes = so.bytes ++ e.stands;
     so =
         so.so
@@ -129,6 +129,29 @@ module _ {r : Manner} {s t p q : Bytes} {n : ℕ} (so : Read r s n q) (at : Turn
         ∙ ap (λ (l : Bytes). in_front (so.bytes ++ e.stands) (unescape_by r l)) (sym (tail_all e.takes b));
     long = omega (arith, length-append so.bytes e.stands, so.long);
   }
+
+-- The same of the bytes themselves, by places: w has been read from the first i bytes, and k more stand before the next backslash.
+module _ (r : Manner) (s : Bytes) (i k : ℕ) (found : k ≡ length (up_to 92 (drop i s))) (w : Bytes) (so : unescape_by r s ≡ in_front w (unescape_by r (drop i s))) where
+  abbrev so_far : Read r s (length w) (drop i s)
+  so_far = record { bytes = w; so = so; long = refl }
+
+  abbrev turn_there : Turn (drop i s) (take k (drop i s)) (drop (i + k) s)
+  turn_there = record { k = k; found = found; front = refl; back = sym (drop-drop k i s) }
+
+  pub read_stretch : unescape_by r s ≡ in_front (w ++ take k (drop i s)) (unescape_by r (drop (i + k) s))
+  unfolding stretch_taken
+  read_stretch = (stretch_taken so_far turn_there).so
+
+  pub read_escape : i + k < length s → (e : Escape) → escape_at r (drop (i + k + 1) s) ≡ some e
+      → unescape_by r s ≡ in_front ((w ++ take k (drop i s)) ++ e.stands) (unescape_by r (drop (i + k + 1 + e.takes) s))
+  unfolding stretch_taken escape_taken
+  read_escape h e q =
+      let left = drop (i + k) s in
+      let b = drop (i + k + 1) s in
+      let behind : b ≡ take (length left - 1) (drop 1 left) = sym (tail_all 1 left ∙ drop-drop 1 (i + k) s) in
+      let more : 1 ≤ length left = omega (arith, length-drop (i + k) s) in
+      (escape_taken (stretch_taken so_far turn_there) turn_there more b behind e q (length e.stands) refl).so
+      ∙ ap (λ (l : Bytes). in_front ((w ++ take k (drop i s)) ++ e.stands) (unescape_by r l)) (tail_all e.takes b ∙ drop-drop e.takes (i + k + 1) s)
 
 -- how long what a text reads as is, and its bytes
 pub measured_some : {o : Option Bytes} {v : Bytes} {m : ℕ} → o ≡ some v → length v ≡ m → Some m ≡ measured o
@@ -167,10 +190,10 @@ written_kept {r} {s} {t} {at} {to} {d} w h = ap length w.wrote ∙ length_pasted
 
 pub stretch_written : {r : Manner} {s t p q : Bytes} {at to : ℕ} {d out new : Bytes} (w : Written r s t at to d out) → Turn t p q → at ≤ length d → new ≡ pasted to p out
     → Written r s q at (to + length p) d new
-unfolding read_stretch
+unfolding stretch_taken
 stretch_written {r} {s} {t} {p} {q} {at} {to} {d} {out} {new} w turn h e = record {
   n = w.n + length p;
-  read = read_stretch w.read turn;
+  read = stretch_taken w.read turn;
   place = omega (arith, w.place);
   wrote = behind_written at to w.read.bytes p d out new h (omega (arith, w.place, w.read.long)) w.wrote e;
 }
@@ -187,10 +210,10 @@ pub escape_written :
     → (m : ℕ)
     → m ≡ length e.stands
     → Written r s (take (length (take (length q - 1) (drop 1 q)) - e.takes) (drop e.takes (take (length q - 1) (drop 1 q)))) at (to + m) d new
-unfolding read_escape
+unfolding escape_taken
 escape_written {r} {s} {t} {p} {q} {at} {to} {d} {out} {new} w turn more e x h o m l = record {
   n = w.n + m;
-  read = read_escape w.read turn more _ refl e x m l;
+  read = escape_taken w.read turn more _ refl e x m l;
   place = omega (arith, w.place);
   wrote = behind_written at to w.read.bytes e.stands d out new h (omega (arith, w.place, w.read.long)) w.wrote o;
 }
@@ -202,6 +225,6 @@ written_all {r} {s} w h = rw (read_end w.read h) (omega (arith, w.place, w.read.
 
 -- a text without a backslash reads as it is
 pub plain_reads : (r : Manner) (s : Bytes) → length (up_to 92 s) ≡ length s → unescape_by r s ≡ some s
-unfolding read_stretch nothing_read
+unfolding stretch_taken nothing_read
 plain_reads r s e =
-    read_end (read_stretch (nothing_read r s) (record { k = length s; found = sym e; front = sym (take_all (length s) s (omega arith)); back = sym (drop_of_length-le s {i = length s} (omega arith)) })) (omega arith)
+    read_end (stretch_taken (nothing_read r s) (record { k = length s; found = sym e; front = sym (take_all (length s) s (omega arith)); back = sym (drop_of_length-le s {i = length s} (omega arith)) })) (omega arith)

@@ -6,18 +6,18 @@ use lib.ListN.{length, take, drop, length-take, length-drop}
 use Rattle.format.specs.Characters.{encoding}
 use Rattle.octets.proofs.Find.{found_within}
 use Rattle.unescape.specs.Reads.{measured}
-use Rattle.unescape.proofs.Stretches.{Read, Turn, read_stretch, read_end, read_refused, read_escape, escape_within, measured_some}
+use Rattle.unescape.proofs.Stretches.{Read, Turn, stretch_taken, read_end, read_refused, escape_taken, escape_within, measured_some}
 use Rattle.unescape.proofs.unescaped_len.Goals as goal
 use Rattle.unescape.proofs.unescaped_len.Goals.{After-split_at, In_ok-code}
 
 pub split_at-requires : goal.split_at-requires
-split_at-requires c = omega (arith, found_within 92 c.loop-found.rest.now c.find_byte.result c.find_byte.ensures)
+split_at-requires c = omega (arith, found_within 92 c.loop-found.rest.now c.next_backslash.result c.next_backslash.ensures)
 
 turn : (c : After-split_at) → Turn c.loop-found.rest.now c.split_at.result.0.now c.split_at.result.1.now
-turn c = record { k = c.find_byte.result; found = c.find_byte.ensures; front = c.split_at.ensures.front; back = c.split_at.ensures.back }
+turn c = record { k = c.next_backslash.result; found = c.next_backslash.ensures; front = c.split_at.ensures.front; back = c.split_at.ensures.back }
 
 read : (c : After-split_at) → Read c.args.manner c.args.s.now (c.loop-found.n + length c.split_at.result.0.now) c.split_at.result.1.now
-read c = read_stretch c.loop-found.invariant.1 (turn c)
+read c = stretch_taken c.loop-found.invariant.1 (turn c)
 
 pub returns-in_default : goal.returns-in_default
 returns-in_default c = let so = read (goal.at.returns-in_default c).After-split_at in measured_some (read_end so (omega arith)) so.long
@@ -49,5 +49,5 @@ loop-found-preserved c =
     let e = ends (goal.at.loop-found-preserved c).In_ok-code in (
       simp (length-take, length-drop) (omega (arith, simp (length-take, length-drop) at e.0, e.1)),
       let at = (goal.at.loop-found-preserved c).After-split_at in
-          read_escape (read at) (turn at) (omega arith) _ refl _ (sym c.in_ok-code.ensures) _ c.code_len-n.ensures,
+          escape_taken (read at) (turn at) (omega arith) _ refl _ (sym c.in_ok-code.ensures) _ c.code_len-n.ensures,
     )

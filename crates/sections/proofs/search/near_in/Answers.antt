@@ -1,23 +1,34 @@
--- `sections::search::near_in` meets its contract. The accumulator says whether the pair was among the bytes that were passed. Assumes nothing.
+-- `sections::search::near_in` meets its contract. The least difference so far is 0 exactly where a pair was passed (`near_next`, `low_next`).
+-- Assumes nothing.
 use mathlib.Core.Path.{◌≡◌, refl, sym, ap, ◌∙◌}
-use Prim.Native.Nat.{ℕ}
-use mathlib.Core.Bool.{Bool, ◌&&◌}
+use mathlib.Core.Bool.{Bool, ◌||◌, or-false}
+use Prim.Native.Nat.{ℕ, ◌+◌}
+use native.Mathlib.Omega.{arith}
+use lib.ListN.{length, drop, get_or}
 use lib.Dec.{eqb}
-use borrow.Author.Rules.{rules}
-use borrow.Author.Tests.{tests}
-use Rattle.std.specs.Slice.Iter.{iter_rest}
-use Rattle.std.proofs.lemmas.Fn.{fold_over, fronts}
-use Rattle.std.proofs.lemmas.Iterator.{zips, YieldsList-from_slice, YieldsList-from_zip}
-use Rattle.format.specs.Bytes.{any}
-use Rattle.sections.proofs.SearchBlocks.{near_zip, pairs_push}
+use Rattle.sections.specs.Block.{near}
+use Rattle.sections.proofs.SearchBlocks.{apart, near_next, near_end, low_next}
 use Rattle.sections.proofs.search.near_in.Goals as goal
 
+pub loop-k-init : goal.loop-k-init
+loop-k-init g c = (omega arith, refl)
+
+pub loop-k-preserved : goal.loop-k-preserved
+loop-k-preserved g c =
+    let s = c.args.text.now in
+    let t = c.args.behind.now in
+    let a = c.args.first in
+    let z = c.args.last in
+    let k = c.loop-k.k in
+    let low = c.loop-k.low in
+    let d = apart (get_or s k 0) a (get_or t k 0) z in
+    let rest = near a z (drop (k + 1) s) (drop (k + 1) t) in (
+      omega arith,
+      c.loop-k.invariant.1 ∙ ap (λ (r : Bool). eqb low 0 || r) (near_next a z s t k (omega arith) (omega arith)) ∙ low_next low d rest ∙ ap (λ (n : ℕ). eqb n 0 || rest) (sym c.min-low.ensures),
+    )
+
 pub returns : goal.returns
-unfolding any
-returns c =
-    let pair : ℕ × ℕ → Bool = λ p. eqb p.0 c.args.first && eqb p.1 c.args.last in
-    fold_over (zips fronts fronts) (λ p. (p.0.now, p.1.now)) _ (λ ys a. a ≡ any pair ys) _
-    (λ ys a x b f' j k. (pairs_push pair ys _ a b j (search (rules, tests)), search (rules, tests)))
-    _ _ _ _ (YieldsList-from_zip (YieldsList-from_slice {s = c.zip.result.a} c.args.text.now (ap iter_rest c.zip.ensures.first ∙ c.iter.ensures.rest))
-    (YieldsList-from_slice {s = c.zip.result.b} c.args.behind.now c.zip.ensures.second.0)).runs refl c.fold.ensures.ran
-    ∙ sym (near_zip c.args.first c.args.last c.args.text.now c.args.behind.now)
+returns g c =
+    let at = c.args in
+    let k : length at.text.now ≡ c.loop-k.k = omega arith in
+    sym (c.loop-k.invariant.1 ∙ rw (sym k, near_end at.first at.last at.text.now) (or-false (eqb c.loop-k.low 0)))
